@@ -4,15 +4,14 @@ use Prim.Native.Nat.{ℕ, ◌+◌, ◌*◌, ◌/◌, ◌%◌, ◌<◌}
 use mathlib.Core.Path.{◌≡◌}
 use native.Mathlib.Nat.{mod-lt, div-add-mod'}
 use native.Mathlib.Omega.{arith}
-use Rattle.sizes.specs.declared.Answer.{Answer}
-use Rattle.sizes.specs.declared.Answer.TheVariants.{Done, Refused}
-use Rattle.sizes.specs.Refusals.{said}
+use Rattle.std.specs.Prelude.{Ok, Err}
+use Rattle.sizes.specs.Refusals.{said, Answer}
 use Rattle.sizes.proofs.Laws.{number-high}
 use Rattle.answer_word.specs.Laws.{AnswerLaws}
 
 small : (a : Answer) → (said a).refusal < 256
-small (Done v) = omega arith
-small (Refused x) = number-high x
+small (Ok v) = omega arith
+small (Err x) = number-high x
 
 full : 0 < 256
 full = omega arith

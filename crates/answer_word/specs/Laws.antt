@@ -2,8 +2,7 @@
 -- proofs/Laws.antt has `answer-laws : AnswerLaws`.
 -- Assumes nothing.
 use Rattle.std.specs.Prelude.{◌≡◌, ◌/◌, ◌%◌}
-use Rattle.sizes.specs.declared.Answer.{Answer}
-use Rattle.sizes.specs.Refusals.{said}
+use Rattle.sizes.specs.Refusals.{said, Answer}
 use Rattle.answer_word.specs.Answers.{word_of}
 
 pub record AnswerLaws : Type 0 where

@@ -16,12 +16,11 @@ use Rattle.lists.specs.Lists.{tabulate, joined}
 use Rattle.lists.proofs.Tests.{not-no, alls-hold}
 use Rattle.lists.proofs.Boards.{below_all}
 use Rattle.sizes.specs.declared.Sizes.{Sizes}
-use Rattle.sizes.specs.declared.Check.{Check}
-use Rattle.sizes.specs.declared.Check.TheVariants.{Pass, Refuse}
+use Rattle.std.specs.Prelude.{Ok, Err}
 use Rattle.sizes.specs.declared.Refusal.{Refusal}
 use Rattle.sizes.specs.declared.Refusal.TheVariants.{Size, Area, Long, Node}
 use Rattle.sizes.specs.Sizing.{legal, α, B, stripes}
-use Rattle.sizes.specs.Refusals.{Line, applies_in, first, board_order}
+use Rattle.sizes.specs.Refusals.{Line, applies_in, first, board_order, Check}
 use Rattle.sizes.proofs.Legal.{Legal, legal-facts, stripes-least, B-most, α-most}
 use Rattle.sizes.proofs.Orders.{stands, clear-off}
 use Rattle.mbcr.specs.Share.{pointed, share, shares}
@@ -50,8 +49,8 @@ settled-fits : (lines : List Line) (bytes output : List ℕ) → (((x : Refusal)
 settled-fits lines bytes output h = go (first board_order lines) refl
   where
     go : (c : Check) → first board_order lines ≡ c → Fits (settled c bytes output).answer.reported
-    go Pass e = h (clear-off lines board_order e)
-    go (Refuse x) e = omega arith
+    go (Ok tt) e = h (clear-off lines board_order e)
+    go (Err x) e = omega arith
 
 -- what legal sizes and a length that is not LONG leave
 record Few (z : Sizes) (L : ℕ) : Type 0 where
@@ -180,8 +179,8 @@ unfolding read_text_call
 read-text-fits text output = go (first board_order (read_text_lines text output))
   where
     go : (c : Check) → Fits (read_settled c (told_of (read_text text)) output).answer.reported
-    go Pass = omega (arith, share-told text (read_text text) refl)
-    go (Refuse x) = omega arith
+    go (Ok tt) = omega (arith, share-told text (read_text text) refl)
+    go (Err x) = omega arith
 
 length-told : (text : List ℕ) (o : Option (List ShareTold)) → texts_of text ≡ o → (first_of (texts_told o)).length ≤ 4063232
 length-told text none e = omega arith

@@ -14,7 +14,7 @@ use Rattle.lists.specs.Tests.{pick, alls}
 use Rattle.lists.specs.Lists.{over}
 use Rattle.sizes.specs.declared.Sizes.{Sizes}
 use Rattle.sizes.specs.declared.Refusal.{Refusal}
-use Rattle.sizes.specs.declared.Answer.TheVariants.{Done}
+use Rattle.std.specs.Prelude.{Ok}
 use Rattle.sizes.specs.Refusals.{number, said, Line}
 use Rattle.sizes.proofs.Laws.{number-low}
 use Rattle.board_spec.specs.Calls.{BoardOutcome}
@@ -61,7 +61,7 @@ module _ (ws ps area : List ℕ) (call : Call) where
   none h = not-lent calling ws ps area (output_of call) (packets_of_call call) h
 
   -- by the lines of the store's call, what it does, and the number that it then reports
-  lent-ends : (reported : ℕ) → is_record ws ≡ true → is_repair ps ≡ true → (store_done (record_from ws) (repair_from ps) area call).answer ≡ said (Done reported)
+  lent-ends : (reported : ℕ) → is_record ws ≡ true → is_repair ps ≡ true → (store_done (record_from ws) (repair_from ps) area call).answer ≡ said (Ok reported)
       → LentEnds (store_lines (record_from ws) (repair_from ps) area call) ws ps area (output_of call) (packets_of_call call) reported
       (store_done (record_from ws) (repair_from ps) area call) (zbk ws ps area call)
   lent-ends reported h k a =
@@ -95,7 +95,7 @@ module _ (ws ps area : List ℕ) (call : Call) where
 
 -- what a step reports
 step-reports : (s : Record) (p : Running) (area packets : List ℕ) (allowance : ℕ)
-    → (step_done s p area packets allowance).answer ≡ said (Done (min allowance (packet_count s.sizes (length (fresh_of p)) - p.carried)))
+    → (step_done s p area packets allowance).answer ≡ said (Ok (min allowance (packet_count s.sizes (length (fresh_of p)) - p.carried)))
 step-reports s p area packets allowance = go (leb (left_of s p area packets) allowance) refl
   where
     left : ℕ
@@ -104,9 +104,9 @@ step-reports s p area packets allowance = go (leb (left_of s p area packets) all
     few : allowance < left → allowance ≤ left
     few h = omega (arith, h)
 
-    go : (t : Bool) → leb left allowance ≡ t → (pick t (step_last s p area packets) (step_on s p area packets allowance)).answer ≡ said (Done (min allowance left))
-    go true e = ap (λ (m : ℕ). said (Done m)) (sym (min-eq_right (leb-true left allowance e)))
-    go false e = ap (λ (m : ℕ). said (Done m)) (sym (min-eq_left (few (leb-false left allowance e))))
+    go : (t : Bool) → leb left allowance ≡ t → (pick t (step_last s p area packets) (step_on s p area packets allowance)).answer ≡ said (Ok (min allowance left))
+    go true e = ap (λ (m : ℕ). said (Ok m)) (sym (min-eq_right (leb-true left allowance e)))
+    go false e = ap (λ (m : ℕ). said (Ok m)) (sym (min-eq_left (few (leb-false left allowance e))))
 
 module _ (ws ps : List ℕ) (z : Sizes) (xs : List ℕ) (c : ℕ) where
   abbrev made : Outcome
@@ -219,7 +219,7 @@ word-ends lines output bytes o ends = record {
   works = λ h. (ap (λ (q : BoardOutcome). word_of q.answer) (ends.works h).0 ∙ word-reported (length bytes), ap (λ (q : BoardOutcome). q.output) (ends.works h).0);
 }
 
-prefix-word : (text : List ℕ) (m : ℕ) → (word_of (said (Done (longest text))) ≡ 256 * m) ↔ Longest text m
+prefix-word : (text : List ℕ) (m : ℕ) → (word_of (said (Ok (longest text))) ≡ 256 * m) ↔ Longest text m
 prefix-word text m =
     let laws = prefix-laws.is-longest text m in
     (λ e. laws.0 (omega (arith, e)), λ l. let e : longest text ≡ m = laws.1 l in omega (arith, e))

@@ -15,12 +15,10 @@ use Rattle.lists.specs.Lists.{All, Bytes, over}
 use Rattle.lists.proofs.Pieces.{map-append}
 use Rattle.lists.proofs.Tests.{alls-hold}
 use Rattle.sizes.specs.declared.Sizes.{Sizes}
-use Rattle.sizes.specs.declared.Check.{Check}
-use Rattle.sizes.specs.declared.Check.TheVariants.{Pass, Refuse}
+use Rattle.std.specs.Prelude.{Ok, Err}
 use Rattle.sizes.specs.declared.Refusal.TheVariants.{Busy}
-use Rattle.sizes.specs.declared.Answer.TheVariants.{Done, Refused}
 use Rattle.sizes.specs.Sizing.{legal, max_stripes}
-use Rattle.sizes.specs.Refusals.{Said, first, store_order}
+use Rattle.sizes.specs.Refusals.{Said, first, store_order, Check}
 use Rattle.sizes.proofs.Legal.{legal-facts}
 use Rattle.sizes.proofs.Orders.{clear-off}
 use Rattle.mbcr.specs.Share.{pointed}
@@ -65,7 +63,7 @@ use Rattle.archive_spec.proofs.InWords.{both_yes, lent as lent-call, lent_back, 
 
 -- the low eight bits of an answer's word are its refusal
 done-word : (a : Said) → a.refusal ≡ 0 → word_of a % 256 ≡ a.refusal
-done-word a e = ap (λ (r : ℕ). (r + 256 * a.reported) % 256) e ∙ answer-laws.refusal_is (Done a.reported) ∙ sym e
+done-word a e = ap (λ (r : ℕ). (r + 256 * a.reported) % 256) e ∙ answer-laws.refusal_is (Ok a.reported) ∙ sym e
 
 answer_word : (w : State) (c : Call) → word_of (act w c).answer % 256 ≡ (act w c).answer.refusal
 answer_word w c =
@@ -75,8 +73,8 @@ answer_word w c =
     done = store_done w.kept w.running w.area c
 
     go : (t : Check) → let o = by w.kept w.running w.area (output_of c) (packets_of_call c) done t in word_of o.answer % 256 ≡ o.answer.refusal
-    go Pass = done-word done.answer (done-accepted w.kept w.running w.area c)
-    go (Refuse x) = answer-laws.refusal_is (Refused x)
+    go (Ok tt) = done-word done.answer (done-accepted w.kept w.running w.area c)
+    go (Err x) = answer-laws.refusal_is (Err x)
 
 -- the words held tell the records of the definitions' state
 pub record Tells (h : Held) (w : State) : Type 0 where

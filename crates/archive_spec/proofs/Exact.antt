@@ -9,11 +9,9 @@ use native.Mathlib.Omega.{arith}
 use native.Mathlib.Nat.{mod-lt}
 use lib.ListN.{length, drop}
 use Rattle.lists.specs.Lists.{All, Bytes, over}
-use Rattle.sizes.specs.declared.Check.{Check}
-use Rattle.sizes.specs.declared.Check.TheVariants.{Pass, Refuse}
+use Rattle.std.specs.Prelude.{Ok, Err}
 use Rattle.sizes.specs.declared.Refusal.TheVariants.{Size, Disagree}
-use Rattle.sizes.specs.declared.Answer.TheVariants.{Refused}
-use Rattle.sizes.specs.Refusals.{number, Said, said, Line, ◌when◌, applies_in, first, store_order}
+use Rattle.sizes.specs.Refusals.{number, Said, said, Line, ◌when◌, applies_in, first, store_order, Check}
 use Rattle.mbcr.specs.Share.{share}
 use Rattle.store_spec.specs.Record.{Record, sound, held}
 use Rattle.beside_spec.specs.Running.{Running, sound_beside}
@@ -77,10 +75,10 @@ said-is a x v low small e = ap₂ {C = Said} (λ (y n : ℕ). record { refusal =
 
 number_small : (t : Check) (s : Record) (area output : List ℕ) (done : StoreOutcome) → done.answer.refusal ≡ 0
     → (settle t (refused s area output) done).answer.refusal < 256
-number_small Pass s area output done z = omega (arith, z)
-number_small (Refuse x) s area output done z =
-    let e = answer-laws.refusal_is (Refused x) in
-    omega (arith, e, mod-lt (word_of (said (Refused x))) {m = 256} (omega arith))
+number_small (Ok tt) s area output done z = omega (arith, z)
+number_small (Err x) s area output done z =
+    let e = answer-laws.refusal_is (Err x) in
+    omega (arith, e, mod-lt (word_of (said (Err x))) {m = 256} (omega arith))
 
 -- A call that leaves record and area: with the words of both records it gives these words and bytes just where alone it has this outcome.
 module _ (ws ps area : List ℕ) (call : Call) (is-record : is_record ws ≡ true) (is-repair : is_repair ps ≡ true) (outcome : StoreOutcome)

@@ -12,7 +12,7 @@ use Rattle.lists.specs.Tests.{pick, alls}
 use Rattle.lists.proofs.Tests.{true-false}
 use Rattle.sizes.specs.declared.Sizes.{Sizes}
 use Rattle.sizes.specs.declared.Refusal.TheVariants.{Size}
-use Rattle.sizes.specs.declared.Answer.TheVariants.{Refused}
+use Rattle.std.specs.Prelude.{Err}
 use Rattle.sizes.specs.Sizing.{legal, B}
 use Rattle.sizes.specs.Refusals.{said}
 use Rattle.sizes.proofs.Legal.{legal-facts}
@@ -47,7 +47,7 @@ all-00 z = unfit z (replicate 32 0) (λ l p.
     (pointed-facts z (replicate 32 0) f.few p).differ 0 1 (omega arith) (omega (arith, f.some_read, f.read-helpers, f.some-fresh, f.enough)) refl)
 
 abbrev sized : List ℕ → BoardOutcome
-sized output = record { answer = said (Refused Size); output = output }
+sized output = record { answer = said (Err Size); output = output }
 
 -- a call that SIZE refuses at such points is the same at the points and at their array
 same-array : (z : Sizes) (xs : List ℕ) (call : List ℕ → BoardOutcome) (output : List ℕ) → ((ys : List ℕ) → Unfit z ys → call ys ≡ sized output)
@@ -121,7 +121,7 @@ unsound z ys c u = go (legal z) refl (pointed z ys) refl u
     go false p b q u = refl
 
 set-up-sized : (s : Record) (p : Running) (z : Sizes) (ys : List ℕ) (c : ℕ) → Unfit z ys
-    → set_up_both s p z ys c ≡ record { answer = said (Refused Size); handed = s; running = p; area = []; output = []; packets = [] }
+    → set_up_both s p z ys c ≡ record { answer = said (Err Size); handed = s; running = p; area = []; output = []; packets = [] }
 unfolding set_up_both
 set-up-sized s p z ys c u = rw (unsound z ys c u) refl
 

@@ -11,9 +11,8 @@ use lib.ListN.{length}
 use borrow.Author.Tests.{eqb-true, ne_eqb}
 use Rattle.lists.specs.Tests.{pick, alls, among}
 use Rattle.sizes.specs.declared.Sizes.{Sizes}
-use Rattle.sizes.specs.declared.Check.{Check}
-use Rattle.sizes.specs.declared.Check.TheVariants.{Pass, Refuse}
-use Rattle.sizes.specs.Refusals.{number, first, board_order, store_order}
+use Rattle.std.specs.Prelude.{Ok, Err}
+use Rattle.sizes.specs.Refusals.{number, first, board_order, store_order, Check}
 use Rattle.sizes.specs.Sizing.{stripes}
 use Rattle.sizes.proofs.Laws.{number-low}
 use Rattle.mbcr.specs.Share.{share}
@@ -90,8 +89,8 @@ module _ (ws ps area : List ℕ) where
       go : (t : Check)
           → act state call ≡ by (record_from ws) (repair_from ps) area (output_of call) (packets_of_call call) (store_done (record_from ws) (repair_from ps) area call) t
           → P (act state call).running
-      go Pass e = subst P (sym (ap (λ (o : Outcome). o.running) e)) b
-      go (Refuse x) e = subst P (sym (ap (λ (o : Outcome). o.running) e)) a
+      go (Ok tt) e = subst P (sym (ap (λ (o : Outcome). o.running) e)) b
+      go (Err x) e = subst P (sym (ap (λ (o : Outcome). o.running) e)) a
 
   beside-stays : (call : Call) → (store_done (record_from ws) (repair_from ps) area call).running ≡ repair_from ps → (zbk ws ps area call).repair ≡ ps
   beside-stays call e =
@@ -131,8 +130,8 @@ module _ (ws ps area : List ℕ) where
       stay : (t : Check)
           → act state call ≡ by (record_from ws) (repair_from ps) area (output_of call) (packets_of_call call) (store_done (record_from ws) (repair_from ps) area call) t
           → ((act state call).handed ≡ record_from ws) × ((act state call).area ≡ area)
-      stay Pass e = (ap (λ (o : Outcome). o.handed) e ∙ d.0, ap (λ (o : Outcome). o.area) e ∙ d.1)
-      stay (Refuse x) e = (ap (λ (o : Outcome). o.handed) e, ap (λ (o : Outcome). o.area) e)
+      stay (Ok tt) e = (ap (λ (o : Outcome). o.handed) e ∙ d.0, ap (λ (o : Outcome). o.area) e ∙ d.1)
+      stay (Err x) e = (ap (λ (o : Outcome). o.handed) e, ap (λ (o : Outcome). o.area) e)
 
   start-leaves : (fresh helpers stand_ins : List ℕ)
       → ((zbk ws ps area (start fresh helpers stand_ins)).words ≡ ws) × ((zbk ws ps area (start fresh helpers stand_ins)).area ≡ area)
@@ -146,8 +145,8 @@ module _ (ws ps area : List ℕ) where
 -- ---- board level
 
 kept : (t : Check) (bytes out : List ℕ) → Leaves (settled t bytes out) out
-kept (Refuse x) bytes out h = refl
-kept Pass bytes out h = absurd (h (length bytes) (omega arith))
+kept (Err x) bytes out h = refl
+kept (Ok tt) bytes out h = absurd (h (length bytes) (omega arith))
 
 share-leaves : (z : Sizes) (xs : List ℕ) (node : ℕ) (file out : List ℕ) → Leaves (share_call z xs node file out) out
 unfolding share_call
@@ -189,8 +188,8 @@ read-text-keeps text head points out =
   where
     go : (t : Bool) (c : Check) (told : ShareTold) → KeepsText (pick t (read_in_words (read_settled c told out) head points) (no_room head points out)) head points out
     go false c told h = refl
-    go true Pass told h = absurd (h (length told.share) (omega arith))
-    go true (Refuse x) told h =
+    go true (Ok tt) told h = absurd (h (length told.share) (omega arith))
+    go true (Err x) told h =
         ap (λ (b : Bool). record {
           answer = number x + 256 * 0;
           head = pick b (head_of blank.sizes 0 0) head;

@@ -15,10 +15,9 @@ use Rattle.lists.specs.Tests.{pick, alls, among}
 use Rattle.lists.proofs.Boards.{below_all, all_among}
 use Rattle.lists.proofs.Tests.{not-no, alls-hold}
 use Rattle.sizes.specs.declared.Sizes.{Sizes}
-use Rattle.sizes.specs.declared.Check.{Check}
-use Rattle.sizes.specs.declared.Check.TheVariants.{Pass, Refuse}
+use Rattle.std.specs.Prelude.{Ok, Err}
 use Rattle.sizes.specs.declared.Refusal.TheVariants.{Size, Count, Idle}
-use Rattle.sizes.specs.Refusals.{first, store_order}
+use Rattle.sizes.specs.Refusals.{first, store_order, Check}
 use Rattle.sizes.proofs.Legal.{legal-facts, α-most, stripes-least}
 use Rattle.sizes.proofs.Orders.{clear-off}
 use Rattle.board_spec.specs.Calls.{file_of}
@@ -41,17 +40,17 @@ use Rattle.store_spec.proofs.Move.{total-is}
 use Rattle.archive_spec.proofs.Bounds.{Fits}
 
 -- a refusal reports nothing, so only what a call does counts
-settled-few : (s : Record) (p : Running) (area output packets : List ℕ) (done : Outcome) (t : Check) → (t ≡ Pass → Fits done.answer.reported)
+settled-few : (s : Record) (p : Running) (area output packets : List ℕ) (done : Outcome) (t : Check) → (t ≡ Ok tt → Fits done.answer.reported)
     → Fits (by s p area output packets done t).answer.reported
-settled-few s p area output packets done Pass h = h refl
-settled-few s p area output packets done (Refuse x) h = omega arith
+settled-few s p area output packets done (Ok tt) h = h refl
+settled-few s p area output packets done (Err x) h = omega arith
 
 -- the stripes of a sound record are few
 few-stripes : (s : Record) → s.capacity ≤ 4096 → stripe_count s ≤ s.capacity → stripe_count s ≤ 4096
 few-stripes s h k = omega arith
 
 -- the bytes that a repair moves
-few-moved : (s : Record) (area fresh helpers stand_ins : List ℕ) → first store_order (repair_lines s (length area) fresh helpers stand_ins) ≡ Pass
+few-moved : (s : Record) (area fresh helpers stand_ins : List ℕ) → first store_order (repair_lines s (length area) fresh helpers stand_ins) ≡ Ok tt
     → Fits (total (repair_packets s area fresh helpers stand_ins))
 few-moved s area fresh helpers stand_ins pass =
     let f = repair-facts s (length area) fresh helpers stand_ins pass in
@@ -65,14 +64,14 @@ few-moved s area fresh helpers stand_ins pass =
     let c : stripe_count s * t * (2 * s.sizes.d + s.sizes.r - 1) ≤ 131072 * 62 = mul-le-mul b (α-most s.sizes l) in
     omega (arith, e, c)
 
-repair-few : (s : Record) (p : Running) (area fresh helpers stand_ins : List ℕ) → first store_order (repair_lines_both s p (length area) fresh helpers stand_ins) ≡ Pass
+repair-few : (s : Record) (p : Running) (area fresh helpers stand_ins : List ℕ) → first store_order (repair_lines_both s p (length area) fresh helpers stand_ins) ≡ Ok tt
     → Fits (total (repair_packets s area fresh helpers stand_ins))
 unfolding repair_lines_both repair_lines list_lines
 repair-few s p area fresh helpers stand_ins h =
     few-moved s area fresh helpers stand_ins (alone-busy s p p.running (drop 1 (repair_lines s (length area) fresh helpers stand_ins)) refl h).0
 
 -- the packets of a repair that runs
-most-packets : (s : Record) (p : Running) (m mp : ℕ) → first store_order (step_lines s p m mp) ≡ Pass → packet_count s.sizes (length (fresh_of p)) ≤ 992
+most-packets : (s : Record) (p : Running) (m mp : ℕ) → first store_order (step_lines s p m mp) ≡ Ok tt → packet_count s.sizes (length (fresh_of p)) ≤ 992
 unfolding step_lines list_lines
 most-packets s p m mp h =
     let off = clear-off (step_lines s p m mp) store_order h in
@@ -101,7 +100,7 @@ few-carried s p area packets allowance h true e = let n : packet_count s.sizes (
 few-carried s p area packets allowance h false e = omega (arith, h, leb-false (left_of s p area packets) allowance e)
 
 -- what a careful read reports: none, or a board below n
-careful-few : (s : Record) (p : Running) (area boards output : List ℕ) → first store_order (careful_lines_both s p area boards output) ≡ Pass
+careful-few : (s : Record) (p : Running) (area boards output : List ℕ) → first store_order (careful_lines_both s p area boards output) ≡ Ok tt
     → Fits (odd_report (odd s area (file_of (careful_file s area boards)) boards))
 unfolding careful_lines_both careful_lines
 careful-few s p area boards output h =
@@ -118,7 +117,7 @@ careful-few s p area boards output h =
 
 -- the bytes that a move reports: those of a repair of one board
 move-few : (s : Record) (p : Running) (area : List ℕ) (board point : ℕ) (helpers partners : List ℕ)
-    → first store_order (move_lines_both s p (length area) board point helpers partners) ≡ Pass → Fits (total (move_packets s area board point helpers partners))
+    → first store_order (move_lines_both s p (length area) board point helpers partners) ≡ Ok tt → Fits (total (move_packets s area board point helpers partners))
 unfolding move_lines_both move_lines
 move-few s p area board point helpers partners h =
     let f = move-facts s (length area) board point helpers partners
@@ -129,7 +128,7 @@ move-few s p area board point helpers partners h =
     let c : stripe_count s * (2 * s.sizes.d + s.sizes.r - 1) ≤ 4096 * 62 = mul-le-mul few (α-most s.sizes l) in
     omega (arith, total-is s area board point helpers partners f, c)
 
-done-few : (s : Record) (p : Running) (area : List ℕ) (c : Call) → first store_order (store_lines s p area c) ≡ Pass → Fits (store_done s p area c).answer.reported
+done-few : (s : Record) (p : Running) (area : List ℕ) (c : Call) → first store_order (store_lines s p area c) ≡ Ok tt → Fits (store_done s p area c).answer.reported
 unfolding store_lines store_done
 done-few s p area (write file) h = omega arith
 done-few s p area (lose board) h = omega arith

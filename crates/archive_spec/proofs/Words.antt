@@ -4,8 +4,7 @@ use Prim.Native.Nat.{ℕ}
 use mathlib.Core.Path.{◌≡◌, ap, ◌∙◌}
 use mathlib.Core.List.{List}
 use native.Mathlib.Omega.{arith}
-use Rattle.sizes.specs.declared.Answer.{Answer}
-use Rattle.sizes.specs.Refusals.{said}
+use Rattle.sizes.specs.Refusals.{said, Answer}
 use Rattle.board_spec.specs.Calls.{BoardOutcome}
 use Rattle.board_lines.specs.Outcomes.{outcome}
 use Rattle.answer_word.specs.Answers.{word_of}

@@ -2,12 +2,11 @@
 -- byte that it was lent, are those of the definitions of document 01, over the records that the words tell; where they do not tell both it is SIZE, and
 -- nothing changes. proofs/Demand1.antt has `archive-demand-1 : ArchiveCalls`.
 -- Assumes nothing.
-use Rattle.std.specs.Prelude.{◌≡◌, true, false, ◌≢◌, ◌↔◌, ◌⊎◌, List, [], ◌∷◌, ℕ, ◌+◌, ◌-◌, ◌*◌, ◌≤◌, min, length}
+use Rattle.std.specs.Prelude.{◌≡◌, true, false, ◌≢◌, ◌↔◌, ◌⊎◌, List, [], ◌∷◌, ℕ, ◌+◌, ◌-◌, ◌*◌, ◌≤◌, min, length, Ok}
 use Rattle.lists.specs.Lists.{All, Bytes, over}
 use Rattle.sizes.specs.declared.Sizes.{Sizes}
 use Rattle.sizes.specs.declared.Refusal.{Refusal}
 use Rattle.sizes.specs.declared.Refusal.TheVariants.{Disagree}
-use Rattle.sizes.specs.declared.Answer.TheVariants.{Done}
 use Rattle.sizes.specs.Sizing.{stripes}
 use Rattle.sizes.specs.Refusals.{number, said, Line, applies_in, store_order, board_order}
 use Rattle.sizes.specs.Laws.{First}
@@ -189,4 +188,4 @@ pub record ArchiveCalls : Type 0 where
       → WordEnds (text_lines z xs L node share out) out (share_text z xs L node share) (text_call z xs L node share out)
   pub gather-word : (text out : List ℕ) → WordEnds (gather_lines text out) out (file_of (gathered (texts_told (texts_of text)))) (gather_call text out)
   -- how far a text makes sense: the word has a number above eight bits 0 just where that is the length of the longest beginning that makes sense
-  pub prefix-word : (text : List ℕ) (m : ℕ) → (word_of (said (Done (longest text))) ≡ 256 * m) ↔ Longest text m
+  pub prefix-word : (text : List ℕ) (m : ℕ) → (word_of (said (Ok (longest text))) ≡ 256 * m) ↔ Longest text m

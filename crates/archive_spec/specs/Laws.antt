@@ -1,9 +1,8 @@
 -- "On a refusal no word and no byte changes", for all nineteen calls. An answer that is no multiple of 256 is a refusal.
 -- proofs/Laws.antt has `archive-laws : ArchiveLaws`.
 -- Assumes nothing.
-use Rattle.std.specs.Prelude.{◌≡◌, true, false, ◌⊎◌, List, [], ℕ, ◌+◌, ◌*◌}
+use Rattle.std.specs.Prelude.{◌≡◌, true, false, ◌⊎◌, List, [], ℕ, ◌+◌, ◌*◌, Ok}
 use Rattle.sizes.specs.declared.Sizes.{Sizes}
-use Rattle.sizes.specs.declared.Answer.TheVariants.{Done}
 use Rattle.sizes.specs.Refusals.{said}
 use Rattle.board_spec.specs.Calls.{BoardOutcome, share_call, file_call, helper_call, exchange_call, finished_call, text_call}
 use Rattle.beside_spec.specs.Running.{idle}
@@ -72,6 +71,6 @@ pub record ArchiveLaws : Type 0 where
   pub read-text-keeps : (text head points out : List ℕ) → KeepsText (zbk_read_text text head points out) head points out
   pub gather-leaves : (text out : List ℕ) → Leaves (gather_call text out) out
   -- how far a text makes sense: it is lent nothing that it could change, and refuses nothing
-  pub prefix-takes-all : (text : List ℕ) → word_of (said (Done (longest text))) ≡ 256 * longest text
+  pub prefix-takes-all : (text : List ℕ) → word_of (said (Ok (longest text))) ≡ 256 * longest text
   pub set-up-keeps : (ws ps : List ℕ) (z : Sizes) (xs : List ℕ) (c : ℕ) → Keeps (zbk_set_up ws ps z xs c) ws ps [] [] []
   pub keeps : (ws ps area : List ℕ) (call : Call) → Keeps (zbk ws ps area call) ws ps area (output_of call) (packets_of_call call)

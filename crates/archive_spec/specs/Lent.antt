@@ -1,11 +1,10 @@
 -- The archive's calls of the store: what each answers, and words, area, output and packet area after it. The store's record stands in twelve words, that of a
 -- repair beside it (request A.8) in 71.
 -- Assumes nothing.
-use Rattle.std.specs.Prelude.{Bool, List, [], ◌∷◌, ℕ, eqb, length}
+use Rattle.std.specs.Prelude.{Bool, List, [], ◌∷◌, ℕ, eqb, length, Err}
 use Rattle.lists.specs.Tests.{pick, alls}
 use Rattle.sizes.specs.declared.Sizes.{Sizes}
 use Rattle.sizes.specs.declared.Refusal.TheVariants.{Size}
-use Rattle.sizes.specs.declared.Answer.TheVariants.{Refused}
 use Rattle.sizes.specs.Refusals.{said}
 use Rattle.store_spec.specs.Record.{Record, new_record}
 use Rattle.beside_spec.specs.Running.{Running, idle}
@@ -26,7 +25,7 @@ pub record Lent : Type 0 where
 -- "Words that are no record .. are SIZE", and nothing changes
 abbrev pub no_record : List ℕ → List ℕ → List ℕ → List ℕ → List ℕ → Lent
 no_record ws ps area output packets =
-    record { answer = word_of (said (Refused Size)); words = ws; repair = ps; area = area; output = output; packets = packets }
+    record { answer = word_of (said (Err Size)); words = ws; repair = ps; area = area; output = output; packets = packets }
 
 -- what the store's call gives, with both records in words
 abbrev pub in_words : Outcome → Lent

@@ -1,9 +1,8 @@
 -- The archive's call of the text reader: what it answers, and head, points and output after it. The head stands in six words, the points in 32 bytes.
 -- Assumes nothing.
-use Rattle.std.specs.Prelude.{List, [], ◌∷◌, ℕ, eqb, length}
+use Rattle.std.specs.Prelude.{List, [], ◌∷◌, ℕ, eqb, length, Err}
 use Rattle.lists.specs.Tests.{pick, alls}
 use Rattle.sizes.specs.declared.Refusal.TheVariants.{Size}
-use Rattle.sizes.specs.declared.Answer.TheVariants.{Refused}
 use Rattle.sizes.specs.Refusals.{said}
 use Rattle.text_spec.specs.Calls.{ReadOutcome, read_text_call}
 use Rattle.answer_word.specs.Answers.{word_of}
@@ -17,7 +16,7 @@ pub record TextLent : Type 0 where
 
 -- "a head of another length than six words, or points of another than 32 bytes, is SIZE before all else", and nothing changes
 abbrev pub no_room : List ℕ → List ℕ → List ℕ → TextLent
-no_room head points output = record { answer = word_of (said (Refused Size)); head = head; points = points; output = output }
+no_room head points output = record { answer = word_of (said (Err Size)); head = head; points = points; output = output }
 
 -- what the reader gives, in words; where it refuses, head and points stay
 abbrev pub read_in_words : ReadOutcome → List ℕ → List ℕ → TextLent

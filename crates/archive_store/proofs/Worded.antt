@@ -12,10 +12,8 @@ use borrow.Author.Tests.{eq-eqb, ne_eqb, not-true, not-false}
 use Rattle.lists.specs.Tests.{alls}
 use Rattle.lists.proofs.Tests.{alls-hold}
 use Rattle.sizes.specs.declared.Sizes.{Sizes}
-use Rattle.sizes.specs.declared.Check.{Check}
-use Rattle.sizes.specs.declared.Check.TheVariants.{Pass, Refuse}
-use Rattle.sizes.specs.declared.Answer.TheVariants.{Refused}
-use Rattle.sizes.specs.Refusals.{said, first, store_order}
+use Rattle.std.specs.Prelude.{Ok, Err}
+use Rattle.sizes.specs.Refusals.{said, first, store_order, Check}
 use Rattle.sizes.proofs.Laws.{number-low}
 use Rattle.store_spec.specs.Record.{Record, new_record}
 use Rattle.beside_spec.specs.Running.{idle}
@@ -111,7 +109,7 @@ lent-call ws ps area c = record {
 module _ (s s' : Record) (p p' : beside-record.Running) (z : Sizes) (xs : List ℕ) (c : ℕ) where
   abbrev by-check : Check → Record → beside-record.Running → Outcome
   by-check t old q =
-      settle t (λ x. record { answer = said (Refused x); handed = old; running = q; area = []; output = []; packets = [] })
+      settle t (λ x. record { answer = said (Err x); handed = old; running = q; area = []; output = []; packets = [] })
       (beside idle (accepted 0 (new_record z xs c) [] []))
 
   -- what it answers does not hang on the records that it is handed
@@ -120,8 +118,8 @@ module _ (s s' : Record) (p p' : beside-record.Running) (z : Sizes) (xs : List �
   same_answer = go (first store_order (record_line (new_record z xs c) ∷ []))
     where
       go : (t : Check) → (by-check t s p).answer ≡ (by-check t s' p').answer
-      go Pass = refl
-      go (Refuse x) = refl
+      go (Ok tt) = refl
+      go (Err x) = refl
 
   -- where it is accepted, nor does what it hands on
   same-made : word_of (set_up_both s p z xs c).answer ≡ 0 → set_up_both s p z xs c ≡ set_up_both s' p' z xs c
@@ -129,8 +127,8 @@ module _ (s s' : Record) (p p' : beside-record.Running) (z : Sizes) (xs : List �
   same-made h = go (first store_order (record_line (new_record z xs c) ∷ [])) h
     where
       go : (t : Check) → word_of (by-check t s p).answer ≡ 0 → by-check t s p ≡ by-check t s' p'
-      go Pass h = refl
-      go (Refuse x) h = absurd (omega (arith, number-low x, h))
+      go (Ok tt) h = refl
+      go (Err x) h = absurd (omega (arith, number-low x, h))
 
 -- a set-up at the array of the points is the set-up at the points
 pub due : (s : Record) (p : beside-record.Running) (z : Sizes) (xs points : List ℕ) (c : ℕ) (o : Outcome)

@@ -3,15 +3,12 @@
 
 #![tactic(auto)]
 
-ghost use Rattle.std.specs.Prelude.{◌≡◌};
-ghost use Rattle.sizes.specs.declared.Answer.TheVariants.{Done};
+ghost use Rattle.std.specs.Prelude.{◌≡◌, Ok};
 ghost use Rattle.sizes.specs.Refusals.{said};
 ghost use Rattle.text_spec.specs.Calls.{gather_call};
 ghost use Rattle.prefix_spec.specs.Prefix.{longest};
 ghost use Rattle.answer_word.specs.Answers.{word_of};
 ghost use Rattle.archive_spec.specs.Texts.{zbk_read_text};
-
-use sizes::Answer;
 
 // The word of SIZE, for a head or points of another length than theirs.
 const SIZE: u64 = 1;
@@ -40,7 +37,7 @@ pub fn gather(text: &[u8], out: &mut [u8]) -> u64
 
 // How many bytes of a text also begin some text that `archive_boards::share_text` writes, at their most. Reports that number, and refuses nothing.
 pub fn text_prefix(text: &[u8]) -> u64
-    ensures { result ≡ word_of (said (Done (longest text.now))) }
+    ensures { result ≡ word_of (said (Ok (longest text.now))) }
 {
-    answer_word::word_of(Answer::Done(text_prefix::prefix(text)))
+    answer_word::word_of(Ok(text_prefix::prefix(text)))
 }

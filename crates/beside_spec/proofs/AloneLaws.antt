@@ -13,12 +13,10 @@ use borrow.Author.Tests.{eqb-true, eq-eqb, ne_eqb, leb-true}
 use Rattle.lists.specs.Tests.{pick, every, alls}
 use Rattle.lists.proofs.Tests.{true-false, every-all, alls-hold, not-no}
 use Rattle.sizes.specs.declared.Sizes.{Sizes}
-use Rattle.sizes.specs.declared.Check.{Check}
-use Rattle.sizes.specs.declared.Check.TheVariants.{Pass, Refuse}
+use Rattle.std.specs.Prelude.{Ok, Err}
 use Rattle.sizes.specs.declared.Refusal.{Refusal}
 use Rattle.sizes.specs.declared.Refusal.TheVariants.{Size, Busy, Count, Down}
-use Rattle.sizes.specs.declared.Answer.TheVariants.{Refused}
-use Rattle.sizes.specs.Refusals.{number, Said, said, Line, ◌when◌, applies_in, first, store_order}
+use Rattle.sizes.specs.Refusals.{number, Said, said, Line, ◌when◌, applies_in, first, store_order, Check}
 use Rattle.sizes.proofs.Laws.{numbers-differ, number-low}
 use Rattle.sizes.proofs.Legal.{Legal, legal-facts}
 use Rattle.sizes.proofs.Orders.{stands, clear-off, first-same}
@@ -76,14 +74,14 @@ idle-first s p rest e n =
 
 module _ (s : Record) (p q : Running) (area output : List ℕ) (done : StoreOutcome) where
   abbrev both : Check → Outcome
-  both t = settle t (λ x. record { answer = said (Refused x); handed = s; running = p; area = area; output = output; packets = [] }) (beside q done)
+  both t = settle t (λ x. record { answer = said (Err x); handed = s; running = p; area = area; output = output; packets = [] }) (beside q done)
 
   abbrev sole : Check → StoreOutcome
   sole t = settle t (refused s area output) done
 
   -- what is handed on: that of the work where it is accepted
   same_outcome : done.answer.refusal ≡ 0 → (t : Check) → AsAlone (pick (eqb (sole t).answer.refusal 0) q p) (sole t) (both t)
-  same_outcome z Pass = record {
+  same_outcome z (Ok tt) = record {
     answer-is = refl;
     handed-is = refl;
     running-is = sym (ap (λ (n : ℕ). pick (eqb n 0) q p) z);
@@ -91,7 +89,7 @@ module _ (s : Record) (p q : Running) (area output : List ℕ) (done : StoreOutc
     output-is = refl;
     packets-none = refl;
   }
-  same_outcome z (Refuse x) = record {
+  same_outcome z (Err x) = record {
     answer-is = refl;
     handed-is = refl;
     running-is = sym (ap (λ (b : Bool). pick b q p) (ne_eqb (number x) 0 (λ e. omega (arith, number-low x, e))));
@@ -102,8 +100,8 @@ module _ (s : Record) (p q : Running) (area output : List ℕ) (done : StoreOutc
 
 -- where the same record is handed on either way
 same-either : (s : Record) (p : Running) (area output : List ℕ) (done : StoreOutcome) (t : Check) → AsAlone p (sole s p p area output done t) (both s p p area output done t)
-same-either s p area output done Pass = record { answer-is = refl; handed-is = refl; running-is = refl; area-is = refl; output-is = refl; packets-none = refl }
-same-either s p area output done (Refuse x) = record { answer-is = refl; handed-is = refl; running-is = refl; area-is = refl; output-is = refl; packets-none = refl }
+same-either s p area output done (Ok tt) = record { answer-is = refl; handed-is = refl; running-is = refl; area-is = refl; output-is = refl; packets-none = refl }
+same-either s p area output done (Err x) = record { answer-is = refl; handed-is = refl; running-is = refl; area-is = refl; output-is = refl; packets-none = refl }
 
 -- such an outcome, whole
 pub alone-is : (p : Running) (a : StoreOutcome) (o : Outcome) → AsAlone p a o → o ≡ beside p a
@@ -193,8 +191,8 @@ unfolding start_call repair_lines_both repair_lines list_lines
 started-by s p area fresh helpers stand_ins ok =
     let lines : List Line = repair_lines_both s p (length area) fresh helpers stand_ins in
     let done : Outcome = beside (running_by fresh helpers stand_ins 0) (accepted 0 s area []) in
-    let d : first store_order lines ≡ Pass = both-done (first store_order lines) s p area [] [] done ok in
-    let pass : first store_order (repair_lines s (length area) fresh helpers stand_ins) ≡ Pass =
+    let d : first store_order lines ≡ (Ok tt) = both-done (first store_order lines) s p area [] [] done ok in
+    let pass : first store_order (repair_lines s (length area) fresh helpers stand_ins) ≡ (Ok tt) =
     (alone-busy s p p.running (drop 1 (repair_lines s (length area) fresh helpers stand_ins)) refl d).0 in
     subst (StartedBy s area fresh helpers stand_ins) (sym (settle-pass _ _ _ d)) (record {
       reports = refl;
@@ -214,7 +212,7 @@ first-up s [] m h e = absurd (omega (arith, h))
 first-up s (j ∷ l) m h e = (j, (every-all (in_service s) (j ∷ (l ++ m)) e).0)
 
 -- lists that pass name a helper in service, so a file was written
-has-file : (s : Record) (fresh helpers stand_ins : List ℕ) → sound s ≡ true → first store_order (list_lines s fresh helpers stand_ins) ≡ Pass → s.written ≡ true
+has-file : (s : Record) (fresh helpers stand_ins : List ℕ) → sound s ≡ true → first store_order (list_lines s fresh helpers stand_ins) ≡ Ok tt → s.written ≡ true
 unfolding list_lines
 has-file s fresh helpers stand_ins ok h = go s.written refl
   where
@@ -264,8 +262,8 @@ start-would s p area ok runs long = (there, back)
     back k =
         let lines : List Line = repair_lines_both s idle (length area) f h i in
         let done : Outcome = beside (running_by f h i 0) (accepted 0 s area []) in
-        let d : first store_order lines ≡ Pass = both-done (first store_order lines) s idle area [] [] done k.0 in
-        let pass : first store_order (repair_lines s (length area) f h i) ≡ Pass = (alone-busy s idle false (drop 1 (repair_lines s (length area) f h i)) refl d).0 in
+        let d : first store_order lines ≡ (Ok tt) = both-done (first store_order lines) s idle area [] [] done k.0 in
+        let pass : first store_order (repair_lines s (length area) f h i) ≡ (Ok tt) = (alone-busy s idle false (drop 1 (repair_lines s (length area) f h i)) refl d).0 in
         (both-calls.beside-is s p).1 (λ e. (first-clear (list_lines s f h i) store_order (lists-pass s (length area) f h i pass), k.1))
 
 none_beside : (s : Record) (p : Running) → sound s ≡ true → p.running ≡ true → s.written ≡ false → sound_beside s p ≡ false

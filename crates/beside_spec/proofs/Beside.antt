@@ -14,9 +14,8 @@ use Rattle.lists.specs.Tests.{pick, every, alls}
 use Rattle.lists.proofs.Alls.{all-at}
 use Rattle.lists.proofs.Pieces.{tabulate-at, length-tabulate, take-fit}
 use Rattle.lists.proofs.Tests.{alls-hold, hold-alls, not-no, every-all, true-false}
-use Rattle.sizes.specs.Refusals.{Line, ◌when◌, applies_in, first, store_order, number, said}
-use Rattle.sizes.specs.declared.Check.{Check}
-use Rattle.sizes.specs.declared.Check.TheVariants.{Pass, Refuse}
+use Rattle.sizes.specs.Refusals.{Line, ◌when◌, applies_in, first, store_order, number, said, Check}
+use Rattle.std.specs.Prelude.{Ok, Err}
 use Rattle.sizes.specs.declared.Refusal.{Refusal}
 use Rattle.sizes.specs.declared.Refusal.TheVariants.{Size, Count, Node, Repeat, Serving, Down, Busy}
 use Rattle.sizes.proofs.Legal.{Legal, legal-facts}
@@ -27,7 +26,6 @@ use Rattle.store_spec.specs.Calls.{record_line, list_lines, repair_lines, settle
 use Rattle.beside_spec.specs.Running.{Running, running_by, fresh_of, helpers_of, stand_ins_of, packet_count, passed, sound_beside, idle}
 use Rattle.beside_spec.specs.Both.{both_line, Outcome, beside, repair_lines_both, repair_both, set_up_both}
 use Rattle.store_spec.proofs.Records.{Repairs, repair-facts, sound-facts}
-use Rattle.sizes.specs.declared.Answer.TheVariants.{Refused}
 use Rattle.sizes.specs.Sizing.{legal, max_stripes}
 use Rattle.sizes.specs.declared.Sizes.{Sizes}
 use Rattle.mbcr.specs.Share.{pointed}
@@ -36,7 +34,7 @@ use Rattle.store_spec.proofs.Passed.{settle-pass, new-pass}
 use Rattle.store_spec.proofs.RepairLaws.{accepted-repair}
 
 -- where a call passes, it passes with another test of SIZE that does not hold
-other-size : (t u : Bool) (rest : List Line) → u ≡ false → first store_order (Size when t ∷ rest) ≡ Pass → first store_order (Size when u ∷ rest) ≡ Pass
+other-size : (t u : Bool) (rest : List Line) → u ≡ false → first store_order (Size when t ∷ rest) ≡ Ok tt → first store_order (Size when u ∷ rest) ≡ Ok tt
 other-size t u rest e h = pass-too (Size when t ∷ rest) (Size when u ∷ rest) store_order (λ x. go x (eqb (number Size) (number x))) h
   where
     go : (x : Refusal) (a : Bool) → pick a t (applies_in rest x) ≡ false → pick a u (applies_in rest x) ≡ false
@@ -48,16 +46,16 @@ module _ (s : Record) (p : Running) where
   pub both_facts : (both_line s p).applies ≡ false → (sound s ≡ true) × (sound_beside s p ≡ true)
   both_facts e = let h = alls-hold (sound s ∷ sound_beside s p ∷ []) (not-no _ e) in (h.0, h.1.0)
 
-  pub alone : (rest : List Line) → first store_order (both_line s p ∷ rest) ≡ Pass → first store_order (record_line s ∷ rest) ≡ Pass
+  pub alone : (rest : List Line) → first store_order (both_line s p ∷ rest) ≡ Ok tt → first store_order (record_line s ∷ rest) ≡ Ok tt
   alone rest h = other-size (both_line s p).applies (record_line s).applies rest (ap not (both_facts (clear-off (both_line s p ∷ rest) store_order h Size refl)).0) h
 
   -- and the other way
-  pub both-pass : (rest : List Line) → not (alls (sound s ∷ sound_beside s p ∷ [])) ≡ false → first store_order (record_line s ∷ rest) ≡ Pass
-      → first store_order (both_line s p ∷ rest) ≡ Pass
+  pub both-pass : (rest : List Line) → not (alls (sound s ∷ sound_beside s p ∷ [])) ≡ false → first store_order (record_line s ∷ rest) ≡ Ok tt
+      → first store_order (both_line s p ∷ rest) ≡ Ok tt
   both-pass rest e h = other-size (record_line s).applies (both_line s p).applies rest e h
 
-  pub alone-busy : (t : Bool) (rest : List Line) → applies_in rest Busy ≡ false → first store_order (both_line s p ∷ (Busy when t ∷ rest)) ≡ Pass
-      → (first store_order (record_line s ∷ rest) ≡ Pass) × (t ≡ false)
+  pub alone-busy : (t : Bool) (rest : List Line) → applies_in rest Busy ≡ false → first store_order (both_line s p ∷ (Busy when t ∷ rest)) ≡ Ok tt
+      → (first store_order (record_line s ∷ rest) ≡ Ok tt) × (t ≡ false)
   alone-busy t rest n h =
       let off = clear-off (both_line s p ∷ (Busy when t ∷ rest)) store_order h in (
         alone rest (pass-too (both_line s p ∷ (Busy when t ∷ rest)) (both_line s p ∷ rest) store_order
@@ -94,7 +92,7 @@ beside_tests s p =
     ∷ ltb p.carried (packet_count s.sizes (length (fresh_of p)))
     ∷ []
 
-module _ (s : Record) (m : ℕ) (fresh helpers stand_ins : List ℕ) (pass : first store_order (repair_lines s m fresh helpers stand_ins) ≡ Pass) where
+module _ (s : Record) (m : ℕ) (fresh helpers stand_ins : List ℕ) (pass : first store_order (repair_lines s m fresh helpers stand_ins) ≡ Ok tt) where
   f : Repairs s m fresh helpers stand_ins
   f = repair-facts s m fresh helpers stand_ins pass
 
@@ -120,7 +118,7 @@ module _ (s : Record) (m : ℕ) (fresh helpers stand_ins : List ℕ) (pass : fir
       ap (λ (x : List ℕ). take (length x * (s.sizes.r - length x)) (fit 256 stand_ins)) (fresh-back c)
       ∙ ap (λ (x : ℕ). take x (fit 256 stand_ins)) (sym f.stand-in-count) ∙ take-fit 256 stand_ins (omega (arith, few-stand-ins, f.stand-in-count))
 
-  pub lists-pass : first store_order (list_lines s fresh helpers stand_ins) ≡ Pass
+  pub lists-pass : first store_order (list_lines s fresh helpers stand_ins) ≡ Ok tt
   unfolding repair_lines list_lines
   lists-pass =
       let off = clear-off (repair_lines s m fresh helpers stand_ins) store_order pass in
@@ -142,20 +140,20 @@ module _ (s : Record) (m : ℕ) (fresh helpers stand_ins : List ℕ) (pass : fir
 
 -- and a record that is sound beside another, where it runs, has such lists
 pub sound-beside : (s : Record) (p : Running) → sound_beside s p ≡ true → p.running ≡ true
-    → (first store_order (list_lines s (fresh_of p) (helpers_of s.sizes p) (stand_ins_of s.sizes p)) ≡ Pass) × (p.carried < packet_count s.sizes (length (fresh_of p)))
+    → (first store_order (list_lines s (fresh_of p) (helpers_of s.sizes p) (stand_ins_of s.sizes p)) ≡ Ok tt) × (p.carried < packet_count s.sizes (length (fresh_of p)))
 unfolding sound_beside
 sound-beside s p h e =
     let k : alls (beside_tests s p) ≡ true = rw e at h in
     let g = alls-hold (beside_tests s p) k in
     (has-passed (first store_order (list_lines s (fresh_of p) (helpers_of s.sizes p) (stand_ins_of s.sizes p))) g.0, ltb-true _ _ g.1.0)
   where
-    has-passed : (c : Check) → passed c ≡ true → c ≡ Pass
-    has-passed Pass e = refl
-    has-passed (Refuse x) e = absurd (true-false e refl)
+    has-passed : (c : Check) → passed c ≡ true → c ≡ Ok tt
+    has-passed (Ok tt) e = refl
+    has-passed (Err x) e = absurd (true-false e refl)
 
 -- lists that a start would take, beside a sound record of a file and an area of its length
 pub lists-taken : (s : Record) (m : ℕ) (fresh helpers stand_ins : List ℕ) → sound s ≡ true → not (eqb m (area_len s)) ≡ false → s.written ≡ true
-    → first store_order (list_lines s fresh helpers stand_ins) ≡ Pass → first store_order (repair_lines s m fresh helpers stand_ins) ≡ Pass
+    → first store_order (list_lines s fresh helpers stand_ins) ≡ Ok tt → first store_order (repair_lines s m fresh helpers stand_ins) ≡ Ok tt
 unfolding repair_lines list_lines
 lists-taken s m fresh helpers stand_ins a b c h =
     let off = clear-off (list_lines s fresh helpers stand_ins) store_order h in
@@ -164,9 +162,9 @@ lists-taken s m fresh helpers stand_ins a b c h =
 
 -- a call with both records that answers no refusal has passed its lines
 pub both-done : (c : Check) (s : Record) (p : Running) (area output packets : List ℕ) (done : Outcome)
-    → (settle c (λ x. record { answer = said (Refused x); handed = s; running = p; area = area; output = output; packets = packets }) done).answer.refusal ≡ 0 → c ≡ Pass
-both-done Pass s p area output packets done e = refl
-both-done (Refuse x) s p area output packets done e = absurd (omega (arith, number-low x))
+    → (settle c (λ x. record { answer = said (Err x); handed = s; running = p; area = area; output = output; packets = packets }) done).answer.refusal ≡ 0 → c ≡ Ok tt
+both-done (Ok tt) s p area output packets done e = refl
+both-done (Err x) s p area output packets done e = absurd (omega (arith, number-low x))
 
 pub accepted-both : (s : Record) (p : Running) (area fresh helpers stand_ins : List ℕ) → (repair_both s p area fresh helpers stand_ins).answer.refusal ≡ 0
     → (repair_both s p area fresh helpers stand_ins ≡ beside p (repair_call s area fresh helpers stand_ins)) × Repaired s area fresh helpers stand_ins
@@ -183,7 +181,7 @@ accepted-both s p area fresh helpers stand_ins h =
 -- ---- a set-up
 
 module _ (old : Record) (p : Running) (z : Sizes) (xs : List ℕ) (c : ℕ) (h : (set_up_both old p z xs c).answer.refusal ≡ 0) where
-  set-up-pass : first store_order (record_line (new_record z xs c) ∷ []) ≡ Pass
+  set-up-pass : first store_order (record_line (new_record z xs c) ∷ []) ≡ Ok tt
   unfolding set_up_both
   set-up-pass = both-done (first store_order (record_line (new_record z xs c) ∷ [])) old p [] [] [] (beside idle (accepted 0 (new_record z xs c) [] [])) h
 

@@ -8,7 +8,7 @@ use mathlib.Core.List.{List, [], ◌∷◌}
 use lib.ListN.{length, drop}
 use Rattle.lists.proofs.Tests.{not-no, true-false, hold-alls}
 use Rattle.sizes.specs.Refusals.{first, store_order}
-use Rattle.sizes.specs.declared.Check.TheVariants.{Pass}
+use Rattle.std.specs.Prelude.{Ok}
 use Rattle.sizes.specs.declared.Refusal.TheVariants.{Size, Area, Count, Node, Repeat, Empty, Down}
 use Rattle.store_spec.specs.Calls.{StoreOutcome, accepted, list_lines, write_lines, write_done, repair_lines, repair_done}
 use Rattle.store_spec.specs.Careful.{careful_call}
@@ -26,7 +26,7 @@ use Rattle.beside_spec.specs.BesideLaws.{CarefulBeside, MoveBeside, BusyBeside}
 
 module _ (s : Record) (p : Running) (area : List ℕ) (board new : ℕ) (helpers partners : List ℕ) where
   both-there : (move_both s p area board new helpers partners).answer.refusal ≡ 0
-      → (first store_order (move_lines s (length area) board new helpers partners) ≡ Pass) × (p.running ≡ false)
+      → (first store_order (move_lines s (length area) board new helpers partners) ≡ Ok tt) × (p.running ≡ false)
       × (move_both s p area board new helpers partners ≡ beside p (move_done s area board new helpers partners))
   unfolding move_both move_lines_both move_lines
   both-there h =
@@ -34,7 +34,7 @@ module _ (s : Record) (p : Running) (area : List ℕ) (board new : ℕ) (helpers
       let a = alone-busy s p p.running (drop 1 (move_lines s (length area) board new helpers partners)) refl q in
       (a.0, a.1, settle-pass _ _ _ q)
 
-  is-moved : first store_order (move_lines s (length area) board new helpers partners) ≡ Pass → move_call s area board new helpers partners ≡ move_done s area board new helpers partners
+  is-moved : first store_order (move_lines s (length area) board new helpers partners) ≡ Ok tt → move_call s area board new helpers partners ≡ move_done s area board new helpers partners
   unfolding move_call
   is-moved e = settle-pass _ _ _ e
 
@@ -43,7 +43,7 @@ module _ (s : Record) (p : Running) (area : List ℕ) (board new : ℕ) (helpers
   both-back h r =
       let q = passes (first store_order (move_lines s (length area) board new helpers partners)) s area [] (move_done s area board new helpers partners) h in
       let off = clear-off (move_lines s (length area) board new helpers partners) store_order q in
-      let b : first store_order (move_lines_both s p (length area) board new helpers partners) ≡ Pass =
+      let b : first store_order (move_lines_both s p (length area) board new helpers partners) ≡ (Ok tt) =
       off-pass (move_lines_both s p (length area) board new helpers partners) store_order
       (ap not (hold-alls (sound s ∷ sound_beside s p ∷ []) (not-no _ (off Size refl), (rw r refl, tt)))
       also r

@@ -12,9 +12,8 @@ use Rattle.lists.specs.Lists.{All}
 use Rattle.lists.specs.Tests.{pick, alls}
 use Rattle.lists.proofs.Tests.{true-false, hold-alls}
 use Rattle.sizes.specs.declared.Sizes.{Sizes}
-use Rattle.sizes.specs.declared.Check.{Check}
-use Rattle.sizes.specs.declared.Answer.TheVariants.{Refused}
-use Rattle.sizes.specs.Refusals.{said, Line, applies_in, first, store_order}
+use Rattle.std.specs.Prelude.{Err}
+use Rattle.sizes.specs.Refusals.{said, Line, applies_in, first, store_order, Check}
 use Rattle.sizes.proofs.Lines.{one-or-none, refuse-first, clear_first, first-clear, says-not, says-itself, says-differ, says_less, says_two, says-no-file}
 use Rattle.board_spec.proofs.Claims.{EachSays, ◌and◌, end, lines-say, says-either}
 use Rattle.store_spec.specs.Record.{Record, new_record}
@@ -35,7 +34,7 @@ use Rattle.store_spec.proofs.Passed.{settle-pass}
 
 module _ (s : Record) (p : Running) (area output packets : List ℕ) (done : Outcome) where
   abbrev pub by : Check → Outcome
-  by t = settle t (λ x. record { answer = said (Refused x); handed = s; running = p; area = area; output = output; packets = packets }) done
+  by t = settle t (λ x. record { answer = said (Err x); handed = s; running = p; area = area; output = output; packets = packets }) done
 
 -- each call is its lines and what it does
 pub act-is : (w : State) (c : Call)

@@ -8,10 +8,9 @@ use native.Mathlib.Omega.{arith}
 use lib.Dec.{leb, eqb}
 use lib.ListN.{length, length-set, drop, set}
 use Rattle.lists.specs.Tests.{pick, alls, among}
-use Rattle.sizes.specs.declared.Check.{Check}
-use Rattle.sizes.specs.declared.Check.TheVariants.{Pass, Refuse}
+use Rattle.std.specs.Prelude.{Ok, Err}
 use Rattle.sizes.specs.Sizing.{max_boards}
-use Rattle.sizes.specs.Refusals.{Said, first, store_order, said, number}
+use Rattle.sizes.specs.Refusals.{Said, first, store_order, said, number, Check}
 use Rattle.sizes.proofs.Laws.{number-low}
 use Rattle.store_spec.specs.Record.{Record, turn_on}
 use Rattle.store_spec.specs.Calls.{list_lines, repair_lines}
@@ -29,13 +28,12 @@ use Rattle.beside_spec.proofs.BothCalls.{by, act-is, done-accepted}
 use Rattle.beside_spec.specs.Acting.{Call, write, lose, repair, read, edit, start, step, careful, move, State, act, output_of, packets_of_call}
 use Rattle.beside_spec.specs.HandedLaws.{new_point, set_points, Arrays, HandedLaws}
 use borrow.Author.Tests.{ne_eqb, eq-eqb}
-use Rattle.sizes.specs.declared.Answer.TheVariants.{Refused}
 use Rattle.sizes.specs.declared.Refusal.{Refusal}
 use mathlib.Core.Logic.{◌≢◌}
 
 -- ---- new points
 
-pub no-point : (call : Call) (x : Refusal) → new_point call (said (Refused x)) ≡ []
+pub no-point : (call : Call) (x : Refusal) → new_point call (said (Err x)) ≡ []
 no-point (write file) x = refl
 no-point (lose board) x = refl
 no-point (repair fresh helpers stand_ins) x = refl
@@ -69,17 +67,17 @@ length-on (i ∷ boards) marks = length-on boards (set marks i true) ∙ length-
 module _ (s : Record) (p : Running) (area output packets : List ℕ) (done : Outcome) where
   keeps : (t : Check) → done.answer.refusal ≡ 0 → let o = by s p area output packets done t in
       (o.answer.refusal ≡ 0 → ⊥) → o ≡ record { answer = o.answer; handed = s; running = p; area = area; output = output; packets = packets }
-  keeps Pass e h = absurd (h e)
-  keeps (Refuse x) e h = refl
+  keeps (Ok tt) e h = absurd (h e)
+  keeps (Err x) e h = refl
 
   full : (t : Check) → length s.marks ≡ max_boards → length done.handed.marks ≡ max_boards → length (by s p area output packets done t).handed.marks ≡ max_boards
-  full Pass e d = d
-  full (Refuse x) e d = e
+  full (Ok tt) e d = d
+  full (Err x) e d = e
 
   points-by : (c : Call) (t : Check) → done.handed.points ≡ set_points s.points (new_point c done.answer)
       → (by s p area output packets done t).handed.points ≡ set_points s.points (new_point c (by s p area output packets done t).answer)
-  points-by c Pass d = d
-  points-by c (Refuse x) d = ap (set_points s.points) (sym (no-point c x))
+  points-by c (Ok tt) d = d
+  points-by c (Err x) d = ap (set_points s.points) (sym (no-point c x))
 
 done_full : (s : Record) (p : Running) (area : List ℕ) (c : Call) → length s.marks ≡ max_boards → length (store_done s p area c).handed.marks ≡ max_boards
 unfolding store_done
@@ -178,7 +176,7 @@ arrays-idle = record {
   stand-ins-bytes = zeros-bytes 256;
 }
 
-arrays-started : (s : Record) (p : Running) (m : ℕ) (fresh helpers stand_ins : List ℕ) → first store_order (repair_lines_both s p m fresh helpers stand_ins) ≡ Pass
+arrays-started : (s : Record) (p : Running) (m : ℕ) (fresh helpers stand_ins : List ℕ) → first store_order (repair_lines_both s p m fresh helpers stand_ins) ≡ Ok tt
     → Arrays (running_by fresh helpers stand_ins 0)
 unfolding repair_lines_both repair_lines list_lines
 arrays-started s p m fresh helpers stand_ins h =
@@ -197,7 +195,7 @@ arrays-started s p m fresh helpers stand_ins h =
       stand-ins-bytes = fit-bytes 256 stand_ins (all_right (λ x. x < 256) helpers stand_ins rest);
     }
 
-done-arrays : (s : Record) (p : Running) (area : List ℕ) (c : Call) → first store_order (store_lines s p area c) ≡ Pass → Arrays p → Arrays (store_done s p area c).running
+done-arrays : (s : Record) (p : Running) (area : List ℕ) (c : Call) → first store_order (store_lines s p area c) ≡ Ok tt → Arrays p → Arrays (store_done s p area c).running
 unfolding store_done store_lines
 done-arrays s p area (write file) h a = a
 done-arrays s p area (lose board) h a = go (alls (p.running ∷ among (named_in s.sizes p) board ∷ []))
@@ -229,8 +227,8 @@ arrays-stay w c a = subst (λ (o : Outcome). Arrays o.running) (sym (act-is w c)
   where
     go : (t : Check) → first store_order (store_lines w.kept w.running w.area c) ≡ t
         → Arrays (by w.kept w.running w.area (output_of c) (packets_of_call c) (store_done w.kept w.running w.area c) t).running
-    go Pass e = done-arrays w.kept w.running w.area c e a
-    go (Refuse x) e = a
+    go (Ok tt) e = done-arrays w.kept w.running w.area c e a
+    go (Err x) e = a
 
 pub handed-laws : HandedLaws
 handed-laws = record {

@@ -18,11 +18,9 @@ use Rattle.lists.proofs.Alls.{all-imp, all_left}
 use Rattle.lists.proofs.Boards.{below_all}
 use Rattle.lists.proofs.Put.{part_end, length-put, put_same, put-before, put-after, within}
 use Rattle.lists.proofs.Tests.{true-false, not-no, alls-hold, hold-alls, every-all}
-use Rattle.sizes.specs.declared.Answer.TheVariants.{Done, Refused}
-use Rattle.sizes.specs.declared.Check.{Check}
-use Rattle.sizes.specs.declared.Check.TheVariants.{Pass, Refuse}
+use Rattle.std.specs.Prelude.{Ok, Err}
 use Rattle.sizes.specs.declared.Refusal.TheVariants.{Size, Area, Empty, Serving, Idle}
-use Rattle.sizes.specs.Refusals.{said, first, store_order}
+use Rattle.sizes.specs.Refusals.{said, first, store_order, Check}
 use Rattle.sizes.proofs.Lines.{first-clear}
 use Rattle.sizes.proofs.Orders.{◌also◌, clear-off, off-pass}
 use Rattle.mbcr.specs.Rebuild.{helper_packet, stand_in_packet, exchange_packet}
@@ -368,7 +366,7 @@ module _ (s : Record) (area fresh helpers stand_ins : List ℕ) (laws : Lengths 
 -- ---- an accepted step
 
 module _ (s : Record) (p : Running) (area packets : List ℕ) (allowance : ℕ) (ok : (step_call s p area packets allowance).answer.refusal ≡ 0) where
-  pass : first store_order (step_lines s p (length area) (length packets)) ≡ Pass
+  pass : first store_order (step_lines s p (length area) (length packets)) ≡ Ok tt
   unfolding step_call
   pass = both-done (first store_order (step_lines s p (length area) (length packets))) s p area [] packets (step_done s p area packets allowance) ok
 
@@ -410,7 +408,7 @@ module _ (s : Record) (p : Running) (area packets : List ℕ) (allowance : ℕ) 
   less : p.carried < packet_count s.sizes (length fresh)
   less = (sound-beside s p known.both.1 known.runs).1
 
-  lists : first store_order (repair_lines s (length area) fresh helpers stand_ins) ≡ Pass
+  lists : first store_order (repair_lines s (length area) fresh helpers stand_ins) ≡ Ok tt
   lists = lists-taken s (length area) fresh helpers stand_ins known.both.0 (ap not known.area-is) known.written (sound-beside s p known.both.1 known.runs).0
 
   f : Repairs s (length area) fresh helpers stand_ins
@@ -436,7 +434,7 @@ module _ (s : Record) (p : Running) (area packets : List ℕ) (allowance : ℕ) 
   m = min allowance left
 
   record Carried : Type 0 where
-    answer-is : (step_call s p area packets allowance).answer ≡ said (Done m)
+    answer-is : (step_call s p area packets allowance).answer ≡ said (Ok m)
     packets-are : (step_call s p area packets allowance).packets ≡ carry s fresh helpers stand_ins area p.carried m packets
     all : p.carried + m ≤ packet_count s.sizes (length fresh)
 
@@ -448,7 +446,7 @@ module _ (s : Record) (p : Running) (area packets : List ℕ) (allowance : ℕ) 
           let n = count-last (leb-true left allowance e) in
           let o = outcome true e in
           record {
-            answer-is = ap (λ (y : Outcome). y.answer) o ∙ ap (λ (y : ℕ). said (Done y)) (sym n);
+            answer-is = ap (λ (y : Outcome). y.answer) o ∙ ap (λ (y : ℕ). said (Ok y)) (sym n);
             packets-are = ap (λ (y : Outcome). y.packets) o ∙ ap (λ (y : ℕ). carry s fresh helpers stand_ins area p.carried y packets) (sym n);
             all = omega (arith, n, less);
           }
@@ -457,7 +455,7 @@ module _ (s : Record) (p : Running) (area packets : List ℕ) (allowance : ℕ) 
           let n = count-on k in
           let o = outcome false e in
           record {
-            answer-is = ap (λ (y : Outcome). y.answer) o ∙ ap (λ (y : ℕ). said (Done y)) (sym n);
+            answer-is = ap (λ (y : Outcome). y.answer) o ∙ ap (λ (y : ℕ). said (Ok y)) (sym n);
             packets-are = ap (λ (y : Outcome). y.packets) o ∙ ap (λ (y : ℕ). carry s fresh helpers stand_ins area p.carried y packets) (sym n);
             all = omega (arith, n, less, k);
           }
@@ -550,11 +548,11 @@ not-all : (l : ℕ) → 0 < l → leb l 0 ≡ false
 not-all l h = lt-leb l 0 h
 
 none-moved : (s : Record) (p : Running) (area packets : List ℕ) → (step_call s p area packets 0).answer.refusal ≡ 0
-    → step_call s p area packets 0 ≡ record { answer = said (Done 0); handed = s; running = p; area = area; output = []; packets = packets }
+    → step_call s p area packets 0 ≡ record { answer = said (Ok 0); handed = s; running = p; area = area; output = []; packets = packets }
 none-moved s p area packets ok =
     let l = less s p area packets 0 ok in
     outcome s p area packets 0 ok false (not-all (left_of s p area packets) (omega arith))
-    ∙ ap (λ (n : ℕ). record { answer = said (Done 0); handed = s; running = with_carried p n; area = area; output = []; packets = packets })
+    ∙ ap (λ (n : ℕ). record { answer = said (Ok 0); handed = s; running = with_carried p n; area = area; output = []; packets = packets })
     (let z : p.carried + 0 ≡ p.carried = omega arith in z)
 
 -- ---- a step in parts
@@ -596,7 +594,7 @@ module _ (s : Record) (p : Running) (area packets : List ℕ) (a b : ℕ) (ok : 
       (omega (arith, h)) (known s p area packets a ok).long
       ∙ (known s p area packets a ok).long
 
-  on-pass : first store_order (step_lines s (with_carried p (p.carried + a)) (length area) (length (carried_on s p area packets a))) ≡ Pass
+  on-pass : first store_order (step_lines s (with_carried p (p.carried + a)) (length area) (length (carried_on s p area packets a))) ≡ Ok tt
   unfolding step_lines
   on-pass =
       let k = known s p area packets a ok in
@@ -622,7 +620,7 @@ module _ (s : Record) (p : Running) (area packets : List ℕ) (a b : ℕ) (ok : 
 
   -- both outcomes, whichever it is
   abbrev joined-up : Outcome → Outcome
-  joined-up q = record { answer = said (Done (a + q.answer.reported)); handed = q.handed; running = q.running; area = q.area; output = []; packets = q.packets }
+  joined-up q = record { answer = said (Ok (a + q.answer.reported)); handed = q.handed; running = q.running; area = q.area; output = []; packets = q.packets }
 
   same-done : (x : Bool) → leb more b ≡ x → step_done s p area packets (a + b) ≡ joined-up (step_done s (with_carried p (p.carried + a)) area (carried_on s p area packets a) b)
   same-done true e =
@@ -633,7 +631,7 @@ module _ (s : Record) (p : Running) (area packets : List ℕ) (a b : ℕ) (ok : 
       ∙ carry-parts s (fresh_of p) (helpers_of s.sizes p) (stand_ins_of s.sizes p) area a more p.carried packets in
       ap (λ (t : Bool). pick t (step_last s p area packets) (step_on s p area packets (a + b))) w
       ∙ ap₂ {C = Outcome} (λ (n : ℕ) (now : List ℕ). record {
-        answer = said (Done n);
+        answer = said (Ok n);
         handed = with_marks s (turn_on (fresh_of p) s.marks);
         running = idle;
         area = put_shares s (share_lying s (fresh_of p) (helpers_of s.sizes p) (stand_ins_of s.sizes p) now) (fresh_of p) area;
@@ -647,14 +645,14 @@ module _ (s : Record) (p : Running) (area packets : List ℕ) (a b : ℕ) (ok : 
       let w : leb (left_of s p area packets) (a + b) ≡ false = lt-leb (left_of s p area packets) (a + b) (omega (arith, k, h)) in
       let n : p.carried + (a + b) ≡ p.carried + a + b = omega arith in
       ap (λ (t : Bool). pick t (step_last s p area packets) (step_on s p area packets (a + b))) w
-      ∙ ap₂ {C = Outcome} (λ (c : ℕ) (now : List ℕ). record { answer = said (Done (a + b)); handed = s; running = with_carried p c; area = area; output = []; packets = now }) n
+      ∙ ap₂ {C = Outcome} (λ (c : ℕ) (now : List ℕ). record { answer = said (Ok (a + b)); handed = s; running = with_carried p c; area = area; output = []; packets = now }) n
       (carry-parts s (fresh_of p) (helpers_of s.sizes p) (stand_ins_of s.sizes p) area a b p.carried packets)
       ∙ sym (ap (λ (t : Bool). joined-up (pick t (step_last s (with_carried p (p.carried + a)) area (carried_on s p area packets a))
       (step_on s (with_carried p (p.carried + a)) area (carried_on s p area packets a) b))) e)
 
   in_parts : let o = step_call s p area packets a in let q = step_call s o.running o.area o.packets b in
       step_call s p area packets (a + b)
-      ≡ record { answer = said (Done (a + q.answer.reported)); handed = q.handed; running = q.running; area = q.area; output = []; packets = q.packets }
+      ≡ record { answer = said (Ok (a + q.answer.reported)); handed = q.handed; running = q.running; area = q.area; output = []; packets = q.packets }
   in_parts =
       subst (λ (o : Outcome). step_call s p area packets (a + b) ≡ joined-up (step_call s o.running o.area o.packets b)) (sym first_part)
       (whole_is ∙ same-done (leb more b) refl ∙ ap joined-up (sym second_is))
@@ -668,10 +666,10 @@ module _ (s : Record) (p : Running) (area : List ℕ) (board : ℕ) (r : p.runni
   unfolding lose_both
   loss-goes-on q = go (first store_order (lose_lines_both s p board))
     where
-      go : (c : Check) → (settle c (λ x. record { answer = said (Refused x); handed = s; running = p; area = area; output = []; packets = [] })
+      go : (c : Check) → (settle c (λ x. record { answer = said (Err x); handed = s; running = p; area = area; output = []; packets = [] })
           (Rattle.beside_spec.specs.Both.beside lost (Rattle.store_spec.specs.Calls.lose_done s area board))).running ≡ p
-      go Pass = ap₂ (λ (x y : Bool). pick (alls (x ∷ y ∷ [])) idle p) r q
-      go (Refuse x) = refl
+      go (Ok tt) = ap₂ (λ (x y : Bool). pick (alls (x ∷ y ∷ [])) idle p) r q
+      go (Err x) = refl
 
   loss-ends : among (named_in s.sizes p) board ≡ true → (lose_both s p area board).answer.refusal ≡ 0
       → ((lose_both s p area board).running ≡ idle) × All (λ i. in_service (lose_both s p area board).handed i ≡ false) (fresh_of p)
@@ -679,7 +677,7 @@ module _ (s : Record) (p : Running) (area : List ℕ) (board : ℕ) (r : p.runni
   loss-ends q ok =
       let pass = both-done (first store_order (lose_lines_both s p board)) s p area [] []
       (Rattle.beside_spec.specs.Both.beside lost (Rattle.store_spec.specs.Calls.lose_done s area board)) ok in
-      let d = settle-pass (first store_order (lose_lines_both s p board)) (λ x. record { answer = said (Refused x); handed = s; running = p; area = area; output = []; packets = [] })
+      let d = settle-pass (first store_order (lose_lines_both s p board)) (λ x. record { answer = said (Err x); handed = s; running = p; area = area; output = []; packets = [] })
       (Rattle.beside_spec.specs.Both.beside lost (Rattle.store_spec.specs.Calls.lose_done s area board)) pass in
       let b = (both_facts s p (clear-off (lose_lines_both s p board) store_order pass Size refl)).1 in
       let lists = clear-off (list_lines s (fresh_of p) (helpers_of s.sizes p) (stand_ins_of s.sizes p)) store_order (sound-beside s p b r).0 in

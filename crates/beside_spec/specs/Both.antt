@@ -1,11 +1,10 @@
 -- Request A.8, every store call with both records: the store's, and beside it that of a started repair. The calls of Calls.antt, Edit.antt,
 -- Careful.antt and Move.antt go on as they were; `start` and `step` are new.
 -- Assumes nothing.
-use Rattle.std.specs.Prelude.{ℕ, ◌+◌, ◌-◌, true, not, List, [], ◌∷◌, ◌++◌, leb, eqb, length, drop}
+use Rattle.std.specs.Prelude.{ℕ, ◌+◌, ◌-◌, true, not, List, [], ◌∷◌, ◌++◌, leb, eqb, length, drop, Ok, Err}
 use Rattle.lists.specs.Tests.{pick, alls, among}
 use Rattle.sizes.specs.declared.Sizes.{Sizes}
 use Rattle.sizes.specs.declared.Refusal.TheVariants.{Size, Area, Busy, Idle}
-use Rattle.sizes.specs.declared.Answer.TheVariants.{Done, Refused}
 use Rattle.sizes.specs.Refusals.{Said, said, Line, ◌when◌, first, store_order}
 use Rattle.store_spec.specs.Record.{Record, sound, new_record, with_marks, turn_on, area_len, put_shares}
 use Rattle.beside_spec.specs.Running.{Running, idle, running_by, with_carried, fresh_of, helpers_of, stand_ins_of, named_in, packet_count, packets_len, sound_beside}
@@ -46,7 +45,7 @@ lines_both s p further lines = both_line s p ∷ (further ++ drop 1 lines)
 abbrev pub call_both : Record → Running → List ℕ → List ℕ → List ℕ → List Line → Outcome → Outcome
 call_both s p area output packets lines done =
     settle (first store_order lines)
-    (λ x. record { answer = said (Refused x); handed = s; running = p; area = area; output = output; packets = packets }) done
+    (λ x. record { answer = said (Err x); handed = s; running = p; area = area; output = output; packets = packets }) done
 
 unfoldable pub write_lines_both : Record → Running → ℕ → List ℕ → List Line
 write_lines_both s p m file = lines_both s p (busy_line p ∷ []) (write_lines s m file)
@@ -131,7 +130,7 @@ module _ (s : Record) (p : Running) (area packets : List ℕ) where
   -- "the fresh boards get their shares and enter service only with the last"
   abbrev pub step_last : Outcome
   step_last = record {
-    answer = said (Done left_of);
+    answer = said (Ok left_of);
     handed = with_marks s (turn_on (fresh_of p) s.marks);
     running = idle;
     area = put_shares s (share_lying s (fresh_of p) (helpers_of s.sizes p) (stand_ins_of s.sizes p) (carried_on left_of)) (fresh_of p) area;
@@ -140,7 +139,7 @@ module _ (s : Record) (p : Running) (area packets : List ℕ) where
   }
 
   abbrev pub step_on : ℕ → Outcome
-  step_on m = record { answer = said (Done m); handed = s; running = with_carried p (p.carried + m); area = area; output = []; packets = carried_on m }
+  step_on m = record { answer = said (Ok m); handed = s; running = with_carried p (p.carried + m); area = area; output = []; packets = carried_on m }
 
   -- "at most the number of packets the caller allows, fewer only where fewer are left"
   abbrev pub step_done : ℕ → Outcome

@@ -2,12 +2,11 @@
 -- first refusal whose line holds, and a refusal hands back both records as they came and changes no byte. proofs/BothCalls.antt has
 -- `both-calls : BothCalls`.
 -- Assumes nothing.
-use Rattle.std.specs.Prelude.{◌≡◌, true, false, ◌≢◌, ◌↔◌, ◌⊎◌, List, [], ◌∷◌, ◌++◌, ℕ, ◌+◌, ◌-◌, ◌*◌, ◌<◌, length, drop}
+use Rattle.std.specs.Prelude.{◌≡◌, true, false, ◌≢◌, ◌↔◌, ◌⊎◌, List, [], ◌∷◌, ◌++◌, ℕ, ◌+◌, ◌-◌, ◌*◌, ◌<◌, length, drop, Err}
 use Rattle.lists.specs.Lists.{All}
 use Rattle.sizes.specs.declared.Sizes.{Sizes}
 use Rattle.sizes.specs.declared.Refusal.{Refusal}
 use Rattle.sizes.specs.declared.Refusal.TheVariants.{Size, Area, Empty, Busy, Idle}
-use Rattle.sizes.specs.declared.Answer.TheVariants.{Refused}
 use Rattle.sizes.specs.Sizing.{α}
 use Rattle.sizes.specs.Refusals.{said, Line, applies_in, store_order}
 use Rattle.sizes.specs.Laws.{First}
@@ -29,7 +28,7 @@ pub record BothEnds (lines : List Line) (s : Record) (p : Running) (area output 
   pub one : ((x : Refusal) × First store_order lines x) ⊎ All (λ x. applies_in lines x ≡ false) store_order
   -- "The first that applies is given", and all is as it came
   pub refuses : (x : Refusal) → First store_order lines x
-      → o ≡ record { answer = said (Refused x); handed = s; running = p; area = area; output = output; packets = packets }
+      → o ≡ record { answer = said (Err x); handed = s; running = p; area = area; output = output; packets = packets }
   -- "otherwise the call does its work"
   pub works : All (λ x. applies_in lines x ≡ false) store_order → (o ≡ done) × (o.answer.refusal ≡ 0)
 

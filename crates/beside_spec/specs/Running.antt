@@ -1,13 +1,11 @@
 -- Request A.8, the record of a started repair, "which every store call takes and hands on beside the other".
 -- Assumes nothing.
-use Rattle.std.specs.Prelude.{Bool, true, false, List, [], ◌∷◌, ◌++◌, ℕ, ◌+◌, ◌-◌, ◌*◌, ltb, length, take, replicate}
+use Rattle.std.specs.Prelude.{Bool, true, false, List, [], ◌∷◌, ◌++◌, ℕ, ◌+◌, ◌-◌, ◌*◌, ltb, length, take, replicate, Ok, Err}
 use Rattle.lists.specs.Tests.{pick, alls}
 use Rattle.lists.specs.Lists.{fit}
 use Rattle.sizes.specs.declared.Sizes.{Sizes}
-use Rattle.sizes.specs.declared.Check.{Check}
-use Rattle.sizes.specs.declared.Check.TheVariants.{Pass, Refuse}
 use Rattle.sizes.specs.Sizing.{α}
-use Rattle.sizes.specs.Refusals.{first, store_order}
+use Rattle.sizes.specs.Refusals.{first, store_order, Check}
 use Rattle.store_spec.specs.Record.{Record, stripe_count}
 use Rattle.store_spec.specs.Calls.{list_lines}
 
@@ -57,8 +55,8 @@ abbrev pub packets_len : Record → ℕ → ℕ
 packets_len s t = stripe_count s * t * α s.sizes
 
 abbrev pub passed : Check → Bool
-passed Pass = true
-passed (Refuse x) = false
+passed (Ok tt) = true
+passed (Err x) = false
 
 -- "A running one with lists that a start would refuse, or a count carried at or above its total, is SIZE": the lists are asked beside this record
 -- of the store, SERVING and DOWN too; one of no repair is not examined

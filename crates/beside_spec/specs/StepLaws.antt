@@ -1,10 +1,9 @@
 -- Request A.8, one step over any records and "any bytes in both areas": what it carries where, what stays, and what the last one makes. proofs/StepLaws.antt
 -- has `step-laws : StepLaws`.
 -- Assumes nothing.
-use Rattle.std.specs.Prelude.{◌≡◌, true, false, ◌⊎◌, List, [], ◌++◌, ℕ, suc, ◌+◌, ◌-◌, ◌*◌, ◌≤◌, ◌<◌, min, ltb, length, take, drop, get_or}
+use Rattle.std.specs.Prelude.{◌≡◌, true, false, ◌⊎◌, List, [], ◌++◌, ℕ, suc, ◌+◌, ◌-◌, ◌*◌, ◌≤◌, ◌<◌, min, ltb, length, take, drop, get_or, Ok}
 use Rattle.lists.specs.Tests.{pick, among}
 use Rattle.lists.specs.Lists.{All, without}
-use Rattle.sizes.specs.declared.Answer.TheVariants.{Done}
 use Rattle.sizes.specs.Refusals.{said}
 use Rattle.mbcr.specs.Rebuild.{helper_packet, stand_in_packet, exchange_packet, finished_share}
 use Rattle.store_spec.specs.Record.{Record, in_service, with_marks, turn_on, stripe_count, held}
@@ -81,7 +80,7 @@ module _ (s : Record) (p : Running) (area packets : List ℕ) (allowance : ℕ) 
   pub record StepTaken : Type 0 where
     pub lain : (now : List ℕ) → Lain s (fresh_of p) (helpers_of s.sizes p) (stand_ins_of s.sizes p) area now
     -- "A step answers how many packets it carried"
-    pub answers : o.answer ≡ said (Done m)
+    pub answers : o.answer ≡ said (Ok m)
     -- "Each packet carried is written at its place in the packet area": as it would be made of what lies there now
     pub written : (q : ℕ) → p.carried ≤ q → q < p.carried + m
         → let b = (get_or (packets_now s (fresh_of p) (helpers_of s.sizes p) (stand_ins_of s.sizes p) area o.packets) q blank).bytes in
@@ -106,14 +105,14 @@ pub record StepLaws : Type 0 where
       → StepTaken s p area packets allowance
   -- "An allowance of 0 moves nothing."
   pub none-moved : (s : Record) (p : Running) (area packets : List ℕ) → (step_call s p area packets 0).answer.refusal ≡ 0
-      → step_call s p area packets 0 ≡ record { answer = said (Done 0); handed = s; running = p; area = area; output = []; packets = packets }
+      → step_call s p area packets 0 ≡ record { answer = said (Ok 0); handed = s; running = p; area = area; output = []; packets = packets }
   -- "A failure inside a step counts as one after a step allowed just the packets carried by then": a step is smaller ones, one after another. Where `a` packets are not the
   -- last, a step that allows a + b leaves, byte for byte, what one that allows a, and then on what that left one that allows b, leave; and it answers the packets of both
   pub in_parts : (s : Record) (p : Running) (area packets : List ℕ) (a b : ℕ) → (step_call s p area packets a).answer.refusal ≡ 0
       → p.carried + a < packet_count s.sizes (length (fresh_of p))
       → let o = step_call s p area packets a in let q = step_call s o.running o.area o.packets b in
       step_call s p area packets (a + b)
-      ≡ record { answer = said (Done (a + q.answer.reported)); handed = q.handed; running = q.running; area = q.area; output = []; packets = q.packets }
+      ≡ record { answer = said (Ok (a + q.answer.reported)); handed = q.handed; running = q.running; area = q.area; output = []; packets = q.packets }
   -- "Losing a board named in the repair ends it, fresh boards out of service"; losing another does not
   pub loss-ends : (s : Record) (p : Running) (area : List ℕ) (board : ℕ) → p.running ≡ true → among (named_in s.sizes p) board ≡ true
       → (lose_both s p area board).answer.refusal ≡ 0

@@ -13,10 +13,8 @@ use Rattle.lists.proofs.Boards.{below_all, all-below, different-cons}
 use Rattle.sizes.specs.declared.Sizes.{Sizes}
 use Rattle.sizes.specs.declared.Refusal.{Refusal}
 use Rattle.sizes.specs.declared.Refusal.TheVariants.{Size, Long, Count, Node, Repeat, Area, Short}
-use Rattle.sizes.specs.declared.Check.{Check}
-use Rattle.sizes.specs.declared.Check.TheVariants.{Pass, Refuse}
-use Rattle.sizes.specs.declared.Answer.TheVariants.{Done, Refused}
-use Rattle.sizes.specs.Refusals.{first, board_order}
+use Rattle.std.specs.Prelude.{Ok, Err}
+use Rattle.sizes.specs.Refusals.{first, board_order, Check}
 use Rattle.sizes.specs.Sizing.{stripes}
 use Rattle.sizes.proofs.Orders.{clear-off}
 use Rattle.mbcr.specs.Rebuild.{exchange_packet}
@@ -40,7 +38,7 @@ module _ (z : Sizes) (xs : List ℕ) (L board : ℕ) (helpers packets : List ℕ
   abbrev pub checked : Check
   checked = first board_order (exchange_lines z xs L board helpers packets receiver output)
 
-  pub exchanges : checked ≡ Pass → Exchanges z xs L helpers packets receiver output
+  pub exchanges : checked ≡ Ok tt → Exchanges z xs L helpers packets receiver output
   unfolding exchange_lines
   exchanges h =
       let off = clear-off (exchange_lines z xs L board helpers packets receiver output) board_order h in
@@ -56,16 +54,16 @@ module _ (z : Sizes) (xs : List ℕ) (L board : ℕ) (helpers packets : List ℕ
         room = ltb-false _ _ (off Short refl);
       }
 
-  pub exchange-refuses : {x : Refusal} → checked ≡ Refuse x → outcome (Refused x) output ≡ exchange_call z xs L board helpers packets receiver output
+  pub exchange-refuses : {x : Refusal} → checked ≡ Err x → outcome (Err x) output ≡ exchange_call z xs L board helpers packets receiver output
   unfolding exchange_call
   exchange-refuses e = refused-by (exchange_packet z xs (stripes z L) helpers packets receiver) output e
 
-  pub exchange-works : (written : List ℕ) (s : ℕ) → checked ≡ Pass → s ≡ stripes z L
+  pub exchange-works : (written : List ℕ) (s : ℕ) → checked ≡ Ok tt → s ≡ stripes z L
       → written ≡ exchange_packet z xs s helpers packets receiver ++ drop s output
-      → outcome (Done s) written ≡ exchange_call z xs L board helpers packets receiver output
+      → outcome (Ok s) written ≡ exchange_call z xs L board helpers packets receiver output
   unfolding exchange_call
   exchange-works written s p many e =
-      ap (λ (m : ℕ). outcome (Done m) written) many
+      ap (λ (m : ℕ). outcome (Ok m) written) many
       ∙ done-by (exchange_packet z xs (stripes z L) helpers packets receiver) output written (stripes z L) p
       (length-exchange z xs (stripes z L) helpers packets receiver)
       (e ∙ ap (λ (m : ℕ). exchange_packet z xs m helpers packets receiver ++ drop m output) many)

@@ -9,9 +9,9 @@ ghost use Rattle.sizes.specs.Refusals.{first, board_order};
 ghost use Rattle.board_spec.specs.Calls.{exchange_lines, exchange_call};
 ghost use Rattle.board_lines.specs.Outcomes.{outcome};
 
-use sizes::{Answer, Check, Sizes};
+use sizes::{Refusal, Sizes};
 
-// The first refusal of an exchange packet: its lines in document 01's order. Each check's answer is taken apart, and a refusal returned early.
+// The first refusal of an exchange packet: its lines in document 01's order. Each check's refusal is passed on.
 fn check_exchange(
     sizes: Sizes,
     points: &[u8],
@@ -21,25 +21,15 @@ fn check_exchange(
     packets: &[u8],
     receiver: usize,
     out: &[u8],
-) -> Check
+) -> Result<(), Refusal>
     ensures { result ≡ first board_order (exchange_lines sizes points.now len board helpers.now packets.now receiver out.now) }
 {
-    if let Check::Refuse(stated) = board_lines::check_stated(sizes, points, len) {
-        return Check::Refuse(stated);
-    }
-    if let Check::Refuse(count) = board_lines::check_count(helpers.len(), sizes.d) {
-        return Check::Refuse(count);
-    }
-    if let Check::Refuse(node) = board_lines::check_nodes_with(sizes, board, receiver, helpers) {
-        return Check::Refuse(node);
-    }
-    if let Check::Refuse(repeat) = line_checks::check_repeat_with(board, receiver, helpers) {
-        return Check::Refuse(repeat);
-    }
+    board_lines::check_stated(sizes, points, len)?;
+    board_lines::check_count(helpers.len(), sizes.d)?;
+    board_lines::check_nodes_with(sizes, board, receiver, helpers)?;
+    line_checks::check_repeat_with(board, receiver, helpers)?;
     let stripes = board_lines::stripe_count(sizes, len);
-    if let Check::Refuse(lent) = board_lines::check_lent(packets.len(), sizes.d * (2 * stripes)) {
-        return Check::Refuse(lent);
-    }
+    board_lines::check_lent(packets.len(), sizes.d * (2 * stripes))?;
     line_checks::check_room(out, stripes)
 }
 
@@ -53,19 +43,15 @@ pub fn exchange_packet(
     packets: &[u8],
     receiver: usize,
     out: &mut [u8],
-) -> Answer
+) -> Result<usize, Refusal>
     ensures { outcome result out.new ≡ exchange_call sizes points len board helpers.now packets.now receiver out.old }
 {
-    if let Check::Refuse(x) = check_exchange(
-        sizes, &points, len, board, helpers, packets, receiver, out,
-    ) {
-        return Answer::Refused(x);
-    }
+    check_exchange(sizes, &points, len, board, helpers, packets, receiver, out)?;
     let stripes = board_lines::stripe_count(sizes, len);
     let mut inverses = [0u8; 256];
     inverses::fill_inverses(&mut inverses);
     stripe_exchange::exchange_packet(
         sizes, &points, &inverses, stripes, helpers, packets, receiver, out,
     );
-    Answer::Done(stripes)
+    Ok(stripes)
 }

@@ -13,10 +13,8 @@ use Rattle.lists.proofs.Tests.{not-no, alls-hold}
 use Rattle.sizes.specs.declared.Sizes.{Sizes}
 use Rattle.sizes.specs.declared.Refusal.{Refusal}
 use Rattle.sizes.specs.declared.Refusal.TheVariants.{Size, Long, Count, Node, Repeat, Area, Short, Disagree}
-use Rattle.sizes.specs.declared.Check.{Check}
-use Rattle.sizes.specs.declared.Check.TheVariants.{Pass, Refuse}
-use Rattle.sizes.specs.declared.Answer.TheVariants.{Done, Refused}
-use Rattle.sizes.specs.Refusals.{first, board_order}
+use Rattle.std.specs.Prelude.{Ok, Err}
+use Rattle.sizes.specs.Refusals.{first, board_order, Check}
 use Rattle.sizes.specs.Sizing.{α, stripes}
 use Rattle.sizes.proofs.Legal.{legal-facts}
 use Rattle.sizes.proofs.Orders.{clear-off}
@@ -31,7 +29,7 @@ use Rattle.board_lines.proofs.Facts.{stated-of, Taken, taken_of, refused-by, don
 use Rattle.decode_stripe.specs.Steps.{Asked}
 
 -- a refusal is no pass
-pub not-passed : {x : Refusal} {P : Type 0} → Refuse x ≡ Pass → P
+pub not-passed : {x : Refusal} {P : Type 0} → ◌≡◌ {A = Check} (Err x) (Ok tt) → P
 not-passed e = let z : ◌≡◌ {A = ℕ} 0 1 = cc in absurd (omega arith)
 
 -- ---- what the kernels ask
@@ -48,8 +46,8 @@ pub record Readable (z : Sizes) (xs : List ℕ) (L : ℕ) (boards : List ℕ) (m
 one : (a b : ℕ) → not (alls (eqb a b ∷ [])) ≡ false → a ≡ b
 one a b e = eqb-true a b (alls-hold (eqb a b ∷ []) (not-no _ e)).0
 
-pub readable : (z : Sizes) (xs : List ℕ) (L : ℕ) (boards : List ℕ) (m : ℕ) → Stated z L → Taken z xs → asked (count_line (eqb (length boards) z.k ∷ [])) ≡ Pass
-    → asked (node_line z boards) ≡ Pass → asked (repeat_line boards) ≡ Pass → asked (area_line (eqb m (z.k * (stripes z L * α z)) ∷ [])) ≡ Pass
+pub readable : (z : Sizes) (xs : List ℕ) (L : ℕ) (boards : List ℕ) (m : ℕ) → Stated z L → Taken z xs → asked (count_line (eqb (length boards) z.k ∷ [])) ≡ Ok tt
+    → asked (node_line z boards) ≡ Ok tt → asked (repeat_line boards) ≡ Ok tt → asked (area_line (eqb m (z.k * (stripes z L * α z)) ∷ [])) ≡ Ok tt
     → Readable z xs L boards m
 readable z xs L boards m s t count node repeat area =
     record {
@@ -77,27 +75,27 @@ module _ (z : Sizes) (xs : List ℕ) (L : ℕ) (boards held output : List ℕ) w
   abbrev pub checked : Check
   checked = first board_order (file_lines z xs L boards held output)
 
-  pub file-readable : checked ≡ Pass → Readable z xs L boards (length held)
+  pub file-readable : checked ≡ Ok tt → Readable z xs L boards (length held)
   unfolding file_lines
   file-readable h =
       let off = clear-off (file_lines z xs L boards held output) board_order h in
       readable z xs L boards (length held) (stated-of z xs L (off Size refl) (off Long refl)) (taken_of z xs (off Size refl))
       (rw (off Count refl)) (rw (off Node refl)) (rw (off Repeat refl)) (rw (off Area refl))
 
-  pub file-room : checked ≡ Pass → L ≤ length output
+  pub file-room : checked ≡ Ok tt → L ≤ length output
   unfolding file_lines
   file-room h = ltb-false _ _ (clear-off (file_lines z xs L boards held output) board_order h Short refl)
 
-  file-agrees : checked ≡ Pass → given (read_file z xs L boards held) ≡ true
+  file-agrees : checked ≡ Ok tt → given (read_file z xs L boards held) ≡ true
   unfolding file_lines
   file-agrees h = not-no _ (clear-off (file_lines z xs L boards held output) board_order h Disagree refl)
 
-  pub file-refuses : {x : Refusal} → checked ≡ Refuse x → outcome (Refused x) output ≡ file_call z xs L boards held output
+  pub file-refuses : {x : Refusal} → checked ≡ Err x → outcome (Err x) output ≡ file_call z xs L boards held output
   unfolding file_call
   file-refuses e = refused-by (file_of (read_file z xs L boards held)) output e
 
-  pub file-works : (written : List ℕ) → checked ≡ Pass → written ≡ decoded_file z xs L boards held ++ drop L output
-      → outcome (Done L) written ≡ file_call z xs L boards held output
+  pub file-works : (written : List ℕ) → checked ≡ Ok tt → written ≡ decoded_file z xs L boards held ++ drop L output
+      → outcome (Ok L) written ≡ file_call z xs L boards held output
   unfolding file_call
   file-works written p e =
       let f = file-readable p in

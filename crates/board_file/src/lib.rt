@@ -12,9 +12,9 @@ ghost use Rattle.board_spec.specs.Calls.{file_lines, file_call};
 ghost use Rattle.board_lines.specs.Outcomes.{outcome};
 ghost use Rattle.decode_setup.specs.Steps.{Made};
 
-use sizes::{Answer, Check, Sizes};
+use sizes::{Refusal, Sizes};
 
-// The first refusal of a file of so many bytes from these shares. Each check's answer is taken apart, and a refusal returned early. Where there
+// The first refusal of a file of so many bytes from these shares. Each check's refusal is passed on. Where there
 // is none the tables of the read are made.
 fn check_file(
     sizes: Sizes,
@@ -25,30 +25,18 @@ fn check_file(
     held: &[u8],
     out: &[u8],
     tables: &mut [u8],
-) -> Check
+) -> Result<(), Refusal>
     requires { (inverses.now ≡ tabulate 256 inverse) × (length tables.old ≡ 49152) }
-    ensures { (result ≡ first board_order (file_lines sizes points.now len boards.now held.now out.now)) × (result ≡ Check.Pass → Made sizes points.now boards.now tables.new) }
+    ensures { (result ≡ first board_order (file_lines sizes points.now len boards.now held.now out.now)) × (result ≡ Ok tt → Made sizes points.now boards.now tables.new) }
 {
-    if let Check::Refuse(stated) = board_lines::check_stated(sizes, points, len) {
-        return Check::Refuse(stated);
-    }
-    if let Check::Refuse(miscounted) = board_lines::check_count(boards.len(), sizes.k) {
-        return Check::Refuse(miscounted);
-    }
-    if let Check::Refuse(named) = board_lines::check_nodes(sizes, boards) {
-        return Check::Refuse(named);
-    }
-    if let Check::Refuse(repeated) = line_checks::check_repeat(boards) {
-        return Check::Refuse(repeated);
-    }
+    board_lines::check_stated(sizes, points, len)?;
+    board_lines::check_count(boards.len(), sizes.k)?;
+    board_lines::check_nodes(sizes, boards)?;
+    line_checks::check_repeat(boards)?;
     let stripes = board_lines::stripe_count(sizes, len);
     let share_len = stripes * sizes.share_len();
-    if let Check::Refuse(lent) = board_lines::check_lent(held.len(), sizes.k * share_len) {
-        return Check::Refuse(lent);
-    }
-    if let Check::Refuse(short) = line_checks::check_room(out, len) {
-        return Check::Refuse(short);
-    }
+    board_lines::check_lent(held.len(), sizes.k * share_len)?;
+    line_checks::check_room(out, len)?;
     decode_shares::check_agrees(sizes, points, inverses, len, stripes, boards, held, tables)
 }
 
@@ -60,13 +48,13 @@ pub fn file(
     boards: &[usize],
     held: &[u8],
     out: &mut [u8],
-) -> Answer
+) -> Result<usize, Refusal>
     ensures { outcome result out.new ≡ file_call sizes points len boards.now held.now out.old }
 {
     let mut inverses = [0u8; 256];
     inverses::fill_inverses(&mut inverses);
     let mut tables = [0u8; 49152];
-    if let Check::Refuse(x) = check_file(
+    check_file(
         sizes,
         &points,
         &inverses,
@@ -75,10 +63,8 @@ pub fn file(
         held,
         out,
         &mut tables,
-    ) {
-        return Answer::Refused(x);
-    }
+    )?;
     let stripes = board_lines::stripe_count(sizes, len);
     decode_shares::write_file(sizes, &points, len, stripes, boards, held, &tables, out);
-    Answer::Done(len)
+    Ok(len)
 }

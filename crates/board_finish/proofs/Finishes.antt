@@ -12,10 +12,8 @@ use Rattle.lists.proofs.Tests.{not-no, alls-hold}
 use Rattle.sizes.specs.declared.Sizes.{Sizes}
 use Rattle.sizes.specs.declared.Refusal.{Refusal}
 use Rattle.sizes.specs.declared.Refusal.TheVariants.{Size, Long, Count, Node, Repeat, Area, Short}
-use Rattle.sizes.specs.declared.Check.{Check}
-use Rattle.sizes.specs.declared.Check.TheVariants.{Pass, Refuse}
-use Rattle.sizes.specs.declared.Answer.TheVariants.{Done, Refused}
-use Rattle.sizes.specs.Refusals.{first, board_order}
+use Rattle.std.specs.Prelude.{Ok, Err}
+use Rattle.sizes.specs.Refusals.{first, board_order, Check}
 use Rattle.sizes.specs.Sizing.{α, stripes}
 use Rattle.sizes.proofs.Orders.{clear-off}
 use Rattle.sizes.proofs.Legal.{legal-facts}
@@ -41,7 +39,7 @@ module _ (z : Sizes) (xs : List ℕ) (L board : ℕ) (helpers packets partners e
   abbrev pub checked : Check
   checked = first board_order (finished_lines z xs L board helpers packets partners exchanges output)
 
-  pub finishes : checked ≡ Pass → Finishes z xs L board helpers packets partners exchanges output
+  pub finishes : checked ≡ Ok tt → Finishes z xs L board helpers packets partners exchanges output
   unfolding finished_lines
   finishes h =
       let off = clear-off (finished_lines z xs L board helpers packets partners exchanges output) board_order h in
@@ -60,16 +58,16 @@ module _ (z : Sizes) (xs : List ℕ) (L board : ℕ) (helpers packets partners e
         room = ltb-false _ _ (off Short refl);
       }
 
-  pub finish-refuses : {x : Refusal} → checked ≡ Refuse x → outcome (Refused x) output ≡ finished_call z xs L board helpers packets partners exchanges output
+  pub finish-refuses : {x : Refusal} → checked ≡ Err x → outcome (Err x) output ≡ finished_call z xs L board helpers packets partners exchanges output
   unfolding finished_call
   finish-refuses e = refused-by (finished_share z xs (stripes z L) board helpers packets partners exchanges) output e
 
-  pub finish-works : (written : List ℕ) (s count : ℕ) → checked ≡ Pass → s ≡ stripes z L → count ≡ stripes z L * α z
+  pub finish-works : (written : List ℕ) (s count : ℕ) → checked ≡ Ok tt → s ≡ stripes z L → count ≡ stripes z L * α z
       → written ≡ finished_share z xs s board helpers packets partners exchanges ++ drop (s * α z) output
-      → outcome (Done count) written ≡ finished_call z xs L board helpers packets partners exchanges output
+      → outcome (Ok count) written ≡ finished_call z xs L board helpers packets partners exchanges output
   unfolding finished_call
   finish-works written s count p many total e =
-      ap (λ (m : ℕ). outcome (Done m) written) total
+      ap (λ (m : ℕ). outcome (Ok m) written) total
       ∙ done-by (finished_share z xs (stripes z L) board helpers packets partners exchanges) output written (stripes z L * α z) p
       (length-finished z xs (legal-facts z (finishes p).stated.is-legal) (stripes z L) board helpers packets partners exchanges)
       (e ∙ ap (λ (m : ℕ). finished_share z xs m board helpers packets partners exchanges ++ drop (m * α z) output) many)

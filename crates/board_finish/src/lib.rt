@@ -9,9 +9,9 @@ ghost use Rattle.sizes.specs.Refusals.{first, board_order};
 ghost use Rattle.board_spec.specs.Calls.{finished_lines, finished_call};
 ghost use Rattle.board_lines.specs.Outcomes.{outcome};
 
-use sizes::{Answer, Check, Sizes};
+use sizes::{Refusal, Sizes};
 
-// The first refusal of a finished share: its lines in document 01's order. Each check's answer is taken apart, and a refusal returned early.
+// The first refusal of a finished share: its lines in document 01's order. Each check's refusal is passed on.
 fn check_finish(
     sizes: Sizes,
     points: &[u8],
@@ -22,38 +22,18 @@ fn check_finish(
     partners: &[usize],
     exchanges: &[u8],
     out: &[u8],
-) -> Check
+) -> Result<(), Refusal>
     ensures { result ≡ first board_order (finished_lines sizes points.now len board helpers.now packets.now partners.now exchanges.now out.now) }
 {
-    if let Check::Refuse(stated) = board_lines::check_stated(sizes, points, len) {
-        return Check::Refuse(stated);
-    }
+    board_lines::check_stated(sizes, points, len)?;
     let others = sizes.r - 1;
-    if let Check::Refuse(count) = board_lines::check_counts(
-        helpers.len(),
-        sizes.d,
-        partners.len(),
-        others,
-    ) {
-        return Check::Refuse(count);
-    }
-    if let Check::Refuse(node) = board_lines::check_nodes_joined(sizes, helpers, partners, board) {
-        return Check::Refuse(node);
-    }
-    if let Check::Refuse(repeat) = line_checks::check_repeat_joined(helpers, partners, board) {
-        return Check::Refuse(repeat);
-    }
+    board_lines::check_counts(helpers.len(), sizes.d, partners.len(), others)?;
+    board_lines::check_nodes_joined(sizes, helpers, partners, board)?;
+    line_checks::check_repeat_joined(helpers, partners, board)?;
     let stripes = board_lines::stripe_count(sizes, len);
     let packets_len = sizes.d * (2 * stripes);
     let exchanges_len = others * stripes;
-    if let Check::Refuse(lent) = board_lines::check_two_lent(
-        packets.len(),
-        packets_len,
-        exchanges.len(),
-        exchanges_len,
-    ) {
-        return Check::Refuse(lent);
-    }
+    board_lines::check_two_lent(packets.len(), packets_len, exchanges.len(), exchanges_len)?;
     line_checks::check_room(out, stripes * sizes.share_len())
 }
 
@@ -68,19 +48,17 @@ pub fn finished_share(
     partners: &[usize],
     exchanges: &[u8],
     out: &mut [u8],
-) -> Answer
+) -> Result<usize, Refusal>
     ensures { outcome result out.new ≡ finished_call sizes points len board helpers.now packets.now partners.now exchanges.now out.old }
 {
-    if let Check::Refuse(x) = check_finish(
+    check_finish(
         sizes, &points, len, board, helpers, packets, partners, exchanges, out,
-    ) {
-        return Answer::Refused(x);
-    }
+    )?;
     let stripes = board_lines::stripe_count(sizes, len);
     let mut inverses = [0u8; 256];
     inverses::fill_inverses(&mut inverses);
     share_finish::finished_share(
         sizes, &points, &inverses, stripes, board, helpers, packets, partners, exchanges, out,
     );
-    Answer::Done(stripes * sizes.share_len())
+    Ok(stripes * sizes.share_len())
 }

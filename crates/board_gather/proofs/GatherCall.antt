@@ -18,7 +18,7 @@ use Rattle.lists.proofs.Pieces.{length-fit, take-fit}
 use Rattle.lists.proofs.Tests.{every-all}
 use Rattle.sizes.specs.declared.Sizes.{Sizes}
 use Rattle.sizes.specs.declared.Refusal.TheVariants.{Text, Mixed, Count, Disagree}
-use Rattle.sizes.specs.declared.Answer.TheVariants.{Refused}
+use Rattle.std.specs.Prelude.{Err}
 use Rattle.sizes.specs.Sizing.{α, stripes}
 use Rattle.sizes.specs.Refusals.{◌when◌, first, board_order}
 use Rattle.sizes.proofs.Legal.{legal-facts}
@@ -85,15 +85,15 @@ module _ (text output : List ℕ) where
   call_by o e = ap by e
 
   -- no text at all
-  pub refuses-none : length text ≡ 0 → outcome (Refused Count) output ≡ gather_call text output
+  pub refuses-none : length text ≡ 0 → outcome (Err Count) output ≡ gather_call text output
   refuses-none e = sym (call_by (some []) (no_bytes text e))
 
   -- no texts
-  pub refuses-text : texts_of text ≡ none → outcome (Refused Text) output ≡ gather_call text output
+  pub refuses-text : texts_of text ≡ none → outcome (Err Text) output ≡ gather_call text output
   refuses-text e = sym (call_by none e)
 
   module _ (f : Head) (s : Stands text 0 f) (l : 0 < length text) where
-    pub refuses-first : f.ok ≡ false → outcome (Refused Text) output ≡ gather_call text output
+    pub refuses-first : f.ok ≡ false → outcome (Err Text) output ≡ gather_call text output
     refuses-first e =
         refuses-text (none-behind text [] text tt refl l
         (s.is-text ∙ ap (λ (t : Bool). pick t (some (record { told = told_by text f; behind = drop f.next text })) none) e))
@@ -126,7 +126,7 @@ module _ (text output : List ℕ) where
         compared : every (like (first_of ts)) ts ≡ every (like_head f.sizes f.points f.length) hs
         compared = ap (λ (t : ShareTold). every (like t) ts) (first-told h us q) ∙ like-heads hs
 
-        mixed : every (like_head f.sizes f.points f.length) hs ≡ false → outcome (Refused Mixed) output ≡ gather_call text output
+        mixed : every (like_head f.sizes f.points f.length) hs ≡ false → outcome (Err Mixed) output ≡ gather_call text output
         mixed m =
             sym (call_by (some ts) q
             ∙ ap (λ (b : Bool). settled (first board_order (
@@ -138,7 +138,7 @@ module _ (text output : List ℕ) where
             ∷ Disagree when not (given (gathered ts))
             ∷ [])) (file_of (gathered ts)) output) (compared ∙ m))
 
-        miscounted : every (like_head f.sizes f.points f.length) hs ≡ true → length hs ≢ f.sizes.k → outcome (Refused Count) output ≡ gather_call text output
+        miscounted : every (like_head f.sizes f.points f.length) hs ≡ true → length hs ≢ f.sizes.k → outcome (Err Count) output ≡ gather_call text output
         miscounted m n =
             let c : eqb (length ts) (first_of ts).sizes.k ≡ false =
             ne_eqb _ _ (λ x. n (sym (length-map hs (told_by text)) ∙ x ∙ ap (λ (t : ShareTold). t.sizes.k) (first-told h us q))) in
@@ -222,19 +222,19 @@ module _ (text output : List ℕ) where
       -- ---- what the walk found
 
       module _ (r : Scan) (nodes places : List ℕ) (hs : List Head) (found : Heads text f.sizes f.points f.length r nodes places hs) where
-        pub refuses-mixed : r.alike ≡ false → outcome (Refused Mixed) output ≡ gather_call text output
+        pub refuses-mixed : r.alike ≡ false → outcome (Err Mixed) output ≡ gather_call text output
         refuses-mixed a = go hs found.are-texts (sym found.compared ∙ a)
           where
             go : (hs : List Head) → texts_of text ≡ some (map (told_by text) hs) → every (like_head f.sizes f.points f.length) hs ≡ false
-                → outcome (Refused Mixed) output ≡ gather_call text output
+                → outcome (Err Mixed) output ≡ gather_call text output
             go [] q a = absurd (none_told q)
             go (h ∷ us) q a = mixed h us q a
 
-        pub refuses-count : r.alike ≡ true → r.count ≢ f.sizes.k → outcome (Refused Count) output ≡ gather_call text output
+        pub refuses-count : r.alike ≡ true → r.count ≢ f.sizes.k → outcome (Err Count) output ≡ gather_call text output
         refuses-count a n = go hs found.are-texts (sym found.compared ∙ a) (λ x. n (found.counted ∙ x))
           where
             go : (hs : List Head) → texts_of text ≡ some (map (told_by text) hs) → every (like_head f.sizes f.points f.length) hs ≡ true → length hs ≢ f.sizes.k
-                → outcome (Refused Count) output ≡ gather_call text output
+                → outcome (Err Count) output ≡ gather_call text output
             go [] q a n = absurd (none_told q)
             go (h ∷ us) q a n = miscounted h us q a n
 

@@ -11,10 +11,8 @@ use Rattle.lists.proofs.Boards.{below_all}
 use Rattle.sizes.specs.declared.Sizes.{Sizes}
 use Rattle.sizes.specs.declared.Refusal.{Refusal}
 use Rattle.sizes.specs.declared.Refusal.TheVariants.{Size, Long, Node, Area, Short}
-use Rattle.sizes.specs.declared.Check.{Check}
-use Rattle.sizes.specs.declared.Check.TheVariants.{Pass, Refuse}
-use Rattle.sizes.specs.declared.Answer.TheVariants.{Done, Refused}
-use Rattle.sizes.specs.Refusals.{first, board_order}
+use Rattle.std.specs.Prelude.{Ok, Err}
+use Rattle.sizes.specs.Refusals.{first, board_order, Check}
 use Rattle.sizes.specs.Sizing.{α, stripes}
 use Rattle.sizes.proofs.Orders.{clear-off}
 use Rattle.mbcr.specs.Rebuild.{helper_packet}
@@ -36,7 +34,7 @@ module _ (z : Sizes) (xs : List ℕ) (L helper receiver : ℕ) (held output : Li
   abbrev pub checked : Check
   checked = first board_order (helper_lines z xs L helper receiver held output)
 
-  pub helps : checked ≡ Pass → Helps z xs L helper receiver held output
+  pub helps : checked ≡ Ok tt → Helps z xs L helper receiver held output
   unfolding helper_lines
   helps h =
       let off = clear-off (helper_lines z xs L helper receiver held output) board_order h in
@@ -50,16 +48,16 @@ module _ (z : Sizes) (xs : List ℕ) (L helper receiver : ℕ) (held output : Li
         room = ltb-false _ _ (off Short refl);
       }
 
-  pub helper-refuses : {x : Refusal} → checked ≡ Refuse x → outcome (Refused x) output ≡ helper_call z xs L helper receiver held output
+  pub helper-refuses : {x : Refusal} → checked ≡ Err x → outcome (Err x) output ≡ helper_call z xs L helper receiver held output
   unfolding helper_call
   helper-refuses e = refused-by (helper_packet z xs (stripes z L) helper receiver held) output e
 
-  pub helper-works : (written : List ℕ) (s : ℕ) → checked ≡ Pass → s ≡ stripes z L
+  pub helper-works : (written : List ℕ) (s : ℕ) → checked ≡ Ok tt → s ≡ stripes z L
       → written ≡ helper_packet z xs s helper receiver held ++ drop (2 * s) output
-      → outcome (Done (2 * s)) written ≡ helper_call z xs L helper receiver held output
+      → outcome (Ok (2 * s)) written ≡ helper_call z xs L helper receiver held output
   unfolding helper_call
   helper-works written s p many e =
-      ap (λ (m : ℕ). outcome (Done (2 * m)) written) many
+      ap (λ (m : ℕ). outcome (Ok (2 * m)) written) many
       ∙ done-by (helper_packet z xs (stripes z L) helper receiver held) output written (2 * stripes z L) p
       (length-packet z xs (stripes z L) helper receiver held)
       (e ∙ ap (λ (m : ℕ). helper_packet z xs m helper receiver held ++ drop (2 * m) output) many)

@@ -9,9 +9,9 @@ ghost use Rattle.sizes.specs.Refusals.{first, board_order};
 ghost use Rattle.board_spec.specs.Calls.{helper_lines, helper_call};
 ghost use Rattle.board_lines.specs.Outcomes.{outcome};
 
-use sizes::{Answer, Check, Sizes};
+use sizes::{Refusal, Sizes};
 
-// The first refusal of a helper packet: its lines in document 01's order. Each check's answer is taken apart, and a refusal returned early.
+// The first refusal of a helper packet: its lines in document 01's order. Each check's refusal is passed on.
 fn check_helper(
     sizes: Sizes,
     points: &[u8],
@@ -20,23 +20,15 @@ fn check_helper(
     receiver: usize,
     held: &[u8],
     out: &[u8],
-) -> Check
+) -> Result<(), Refusal>
     ensures { result ≡ first board_order (helper_lines sizes points.now len helper receiver held.now out.now) }
 {
-    if let Check::Refuse(stated) = board_lines::check_stated(sizes, points, len) {
-        return Check::Refuse(stated);
-    }
+    board_lines::check_stated(sizes, points, len)?;
     let named = [helper, receiver];
-    if let Check::Refuse(node) = board_lines::check_nodes(sizes, &named) {
-        return Check::Refuse(node);
-    }
-    if let Check::Refuse(repeat) = line_checks::check_repeat(&named) {
-        return Check::Refuse(repeat);
-    }
+    board_lines::check_nodes(sizes, &named)?;
+    line_checks::check_repeat(&named)?;
     let stripes = board_lines::stripe_count(sizes, len);
-    if let Check::Refuse(lent) = board_lines::check_lent(held.len(), stripes * sizes.share_len()) {
-        return Check::Refuse(lent);
-    }
+    board_lines::check_lent(held.len(), stripes * sizes.share_len())?;
     let count = 2 * stripes;
     line_checks::check_room(out, count)
 }
@@ -50,17 +42,15 @@ pub fn helper_packet(
     receiver: usize,
     held: &[u8],
     out: &mut [u8],
-) -> Answer
+) -> Result<usize, Refusal>
     ensures { outcome result out.new ≡ helper_call sizes points len helper receiver held.now out.old }
 {
-    if let Check::Refuse(x) = check_helper(sizes, &points, len, helper, receiver, held, out) {
-        return Answer::Refused(x);
-    }
+    check_helper(sizes, &points, len, helper, receiver, held, out)?;
     let stripes = board_lines::stripe_count(sizes, len);
     let mut inverses = [0u8; 256];
     inverses::fill_inverses(&mut inverses);
     stripe_helper::helper_packet(
         sizes, &points, &inverses, stripes, helper, receiver, held, out,
     );
-    Answer::Done(2 * stripes)
+    Ok(2 * stripes)
 }

@@ -9,10 +9,8 @@ use borrow.Author.Tests.{ltb-false}
 use Rattle.sizes.specs.declared.Sizes.{Sizes}
 use Rattle.sizes.specs.declared.Refusal.{Refusal}
 use Rattle.sizes.specs.declared.Refusal.TheVariants.{Size, Long}
-use Rattle.sizes.specs.declared.Check.{Check}
-use Rattle.sizes.specs.declared.Check.TheVariants.{Pass, Refuse}
-use Rattle.sizes.specs.declared.Answer.TheVariants.{Done, Refused}
-use Rattle.sizes.specs.Refusals.{first, board_order}
+use Rattle.std.specs.Prelude.{Ok, Err}
+use Rattle.sizes.specs.Refusals.{first, board_order, Check}
 use Rattle.sizes.specs.Sizing.{legal}
 use Rattle.sizes.proofs.Legal.{legal-facts}
 use Rattle.sizes.proofs.Orders.{clear-off}
@@ -28,7 +26,7 @@ module _ (z : Sizes) (xs : List ℕ) where
   pub stated-of : (L : ℕ) → (size_line z xs).applies ≡ false → (long_line z L).applies ≡ false → Stated z L
   stated-of L e l = record { is-legal = (size-facts z xs e).0; not-long = ltb-false _ _ l }
 
-  pub stated-facts : (L : ℕ) → first board_order (stated_lines z xs L) ≡ Pass → Stated z L
+  pub stated-facts : (L : ℕ) → first board_order (stated_lines z xs L) ≡ Ok tt → Stated z L
   stated-facts L h = let off = clear-off (stated_lines z xs L) board_order h in stated-of L (off Size refl) (off Long refl)
 
 -- what kernels ask of points
@@ -43,17 +41,17 @@ module _ (z : Sizes) (xs : List ℕ) where
   pub taken_of : (size_line z xs).applies ≡ false → Taken z xs
   taken_of e = let f = size-facts z xs e in taken f.0 f.1
 
-  pub taken-facts : (L : ℕ) → first board_order (stated_lines z xs L) ≡ Pass → Taken z xs
+  pub taken-facts : (L : ℕ) → first board_order (stated_lines z xs L) ≡ Ok tt → Taken z xs
   taken-facts L h = taken_of (clear-off (stated_lines z xs L) board_order h Size refl)
 
 -- a call whose check refuses answers so and leaves its output
-pub refused-by : {c : Check} {x : Refusal} (bytes output : List ℕ) → c ≡ Refuse x → outcome (Refused x) output ≡ settled c bytes output
+pub refused-by : {c : Check} {x : Refusal} (bytes output : List ℕ) → c ≡ Err x → outcome (Err x) output ≡ settled c bytes output
 refused-by bytes output e = sym (ap (λ (k : Check). settled k bytes output) e)
 
 -- a call whose check passes writes its bytes and answers how many
-pub done-by : {c : Check} (bytes output written : List ℕ) (count : ℕ) → c ≡ Pass → length bytes ≡ count → written ≡ bytes ++ drop count output
-    → outcome (Done count) written ≡ settled c bytes output
+pub done-by : {c : Check} (bytes output written : List ℕ) (count : ℕ) → c ≡ Ok tt → length bytes ≡ count → written ≡ bytes ++ drop count output
+    → outcome (Ok count) written ≡ settled c bytes output
 done-by bytes output written count p l e =
-    ap (λ (w : List ℕ). outcome (Done count) w) e
-    ∙ ap (λ (m : ℕ). outcome (Done m) (bytes ++ drop m output)) (sym l)
+    ap (λ (w : List ℕ). outcome (Ok count) w) e
+    ∙ ap (λ (m : ℕ). outcome (Ok m) (bytes ++ drop m output)) (sym l)
     ∙ sym (ap (λ (k : Check). settled k bytes output) p)

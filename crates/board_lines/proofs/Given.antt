@@ -7,14 +7,13 @@ use mathlib.Core.List.{List, [], ◌∷◌}
 use native.Mathlib.Omega.{arith}
 use native.Mathlib.Nat.{mul-le-mul_right}
 use Rattle.lists.specs.Tests.{pick}
-use Rattle.sizes.specs.declared.Check.{Check}
-use Rattle.sizes.specs.declared.Check.TheVariants.{Pass, Refuse}
-use Rattle.sizes.specs.Refusals.{Line}
+use Rattle.std.specs.Prelude.{Ok, Err}
+use Rattle.sizes.specs.Refusals.{Line, Check}
 
 -- lines in the order in which a call tests them
 abbrev pub chain : List Line → Check
-chain [] = Pass
-chain (l ∷ lines) = pick l.applies (Refuse l.refusal) (chain lines)
+chain [] = Ok tt
+chain (l ∷ lines) = pick l.applies (Err l.refusal) (chain lines)
 
 -- the bytes of so many stripes, and that they are few
 pub as_many : (s q S a : ℕ) (t : Bool) → s ≡ S → q ≡ pick t a 0 → t ≡ true → s * q ≡ S * a

@@ -1,8 +1,7 @@
 -- What a call answered and left in its output, by its parts. proofs/Laws.antt has `outcome-is`.
 -- Assumes nothing.
 use Rattle.std.specs.Prelude.{◌≡◌, List, ℕ}
-use Rattle.sizes.specs.declared.Answer.{Answer}
-use Rattle.sizes.specs.Refusals.{said}
+use Rattle.sizes.specs.Refusals.{said, Answer}
 use Rattle.board_lines.specs.Outcomes.{outcome}
 
 abbrev pub OutcomeIs : Type 0

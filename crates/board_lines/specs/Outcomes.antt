@@ -1,8 +1,7 @@
 -- What a call answered and left in its output, as the definitions say it.
 -- Assumes nothing.
 use Rattle.std.specs.Prelude.{List, ℕ}
-use Rattle.sizes.specs.declared.Answer.{Answer}
-use Rattle.sizes.specs.Refusals.{said}
+use Rattle.sizes.specs.Refusals.{said, Answer}
 use Rattle.board_spec.specs.Calls.{BoardOutcome}
 
 abbrev pub outcome : Answer → List ℕ → BoardOutcome

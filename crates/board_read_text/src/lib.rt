@@ -2,16 +2,16 @@
 
 #![tactic(auto)]
 
-ghost use Rattle.std.specs.Prelude.{◌≡◌, List};
+ghost use Rattle.std.specs.Prelude.{◌≡◌, List, Err};
 ghost use Rattle.sizes.specs.Refusals.{said};
 ghost use Rattle.text_spec.specs.Calls.{blank, read_text_call};
 
-use sizes::{Answer, Refusal, Sizes};
+use sizes::{Refusal, Sizes};
 
 // What the reader answers, and what the text tells; all 0 with a refusal.
 #[derive(Clone, Copy)]
 pub struct TextRead {
-    pub answer: Answer,
+    pub answer: Result<usize, Refusal>,
     pub sizes: Sizes,
     pub points: [u8; 32],
     pub node: usize,
@@ -20,11 +20,11 @@ pub struct TextRead {
 
 // A refusal, with nothing told.
 fn refused(x: Refusal) -> TextRead
-    ensures { result ≡ record { answer = Answer.Refused x; sizes = blank.sizes; points = blank.points; node = 0; length = 0 } }
+    ensures { result ≡ record { answer = Err x; sizes = blank.sizes; points = blank.points; node = 0; length = 0 } }
 {
     let points = [0u8; 32];
     TextRead {
-        answer: Answer::Refused(x),
+        answer: Err(x),
         sizes: Sizes {
             n: 0,
             k: 0,
@@ -56,7 +56,7 @@ pub fn read_text(text: &[u8], out: &mut [u8]) -> TextRead
     let sizes = head.sizes;
     let points = head.points;
     TextRead {
-        answer: Answer::Done(count),
+        answer: Ok(count),
         sizes: sizes,
         points: points,
         node: head.node,

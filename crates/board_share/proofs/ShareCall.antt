@@ -10,10 +10,8 @@ use Rattle.lists.proofs.Boards.{below_all}
 use Rattle.sizes.specs.declared.Sizes.{Sizes}
 use Rattle.sizes.specs.declared.Refusal.{Refusal}
 use Rattle.sizes.specs.declared.Refusal.TheVariants.{Size, Long, Node, Short}
-use Rattle.sizes.specs.declared.Check.{Check}
-use Rattle.sizes.specs.declared.Check.TheVariants.{Pass, Refuse}
-use Rattle.sizes.specs.declared.Answer.TheVariants.{Done, Refused}
-use Rattle.sizes.specs.Refusals.{first, board_order}
+use Rattle.std.specs.Prelude.{Ok, Err}
+use Rattle.sizes.specs.Refusals.{first, board_order, Check}
 use Rattle.sizes.specs.Sizing.{α, stripes}
 use Rattle.sizes.proofs.Legal.{legal-facts}
 use Rattle.sizes.proofs.Orders.{clear-off}
@@ -34,7 +32,7 @@ module _ (z : Sizes) (xs : List ℕ) (node : ℕ) (file output : List ℕ) where
   abbrev pub checked : Check
   checked = first board_order (share_lines z xs node file output)
 
-  pub share-facts : checked ≡ Pass → Shares z xs node file output
+  pub share-facts : checked ≡ Ok tt → Shares z xs node file output
   unfolding share_lines
   share-facts h =
       let off = clear-off (share_lines z xs node file output) board_order h in
@@ -45,14 +43,14 @@ module _ (z : Sizes) (xs : List ℕ) (node : ℕ) (file output : List ℕ) where
         room = ltb-false _ _ (off Short refl);
       }
 
-  pub share-refuses : {x : Refusal} → checked ≡ Refuse x → outcome (Refused x) output ≡ share_call z xs node file output
+  pub share-refuses : {x : Refusal} → checked ≡ Err x → outcome (Err x) output ≡ share_call z xs node file output
   unfolding share_call
   share-refuses e = refused-by (share z xs file node) output e
 
-  pub share-works : (written : List ℕ) (s count : ℕ) → checked ≡ Pass → s ≡ stripes z (length file) → count ≡ stripes z (length file) * α z
-      → written ≡ share z xs file node ++ drop (s * α z) output → outcome (Done count) written ≡ share_call z xs node file output
+  pub share-works : (written : List ℕ) (s count : ℕ) → checked ≡ Ok tt → s ≡ stripes z (length file) → count ≡ stripes z (length file) * α z
+      → written ≡ share z xs file node ++ drop (s * α z) output → outcome (Ok count) written ≡ share_call z xs node file output
   unfolding share_call
   share-works written s count p here many e =
-      ap (λ (m : ℕ). outcome (Done m) written) many
+      ap (λ (m : ℕ). outcome (Ok m) written) many
       ∙ done-by (share z xs file node) output written (stripes z (length file) * α z) p (length-share z xs (legal-facts z (share-facts p).stated.is-legal) file node)
       (e ∙ ap (λ (m : ℕ). share z xs file node ++ drop (m * α z) output) here)

@@ -9,31 +9,37 @@ ghost use Rattle.sizes.specs.Refusals.{first, board_order};
 ghost use Rattle.board_spec.specs.Calls.{share_lines, share_call};
 ghost use Rattle.board_lines.specs.Outcomes.{outcome};
 
-use sizes::{Answer, Check, Sizes};
+use sizes::{Refusal, Sizes};
 
-// The first refusal of a share of this file. Each check's answer is taken apart, and a refusal returned early.
-fn check_share(sizes: Sizes, points: &[u8], node: usize, file: &[u8], out: &[u8]) -> Check
+// The first refusal of a share of this file. Each check's refusal is passed on.
+fn check_share(
+    sizes: Sizes,
+    points: &[u8],
+    node: usize,
+    file: &[u8],
+    out: &[u8],
+) -> Result<(), Refusal>
     ensures { result ≡ first board_order (share_lines sizes points.now node file.now out.now) }
 {
-    if let Check::Refuse(stated) = board_lines::check_stated(sizes, points, file.len()) {
-        return Check::Refuse(stated);
-    }
-    if let Check::Refuse(named) = line_checks::check_node(sizes, node) {
-        return Check::Refuse(named);
-    }
+    board_lines::check_stated(sizes, points, file.len())?;
+    line_checks::check_node(sizes, node)?;
     let stripes = board_lines::stripe_count(sizes, file.len());
     line_checks::check_room(out, stripes * sizes.share_len())
 }
 
 // The share of board `node` of a file, with these points of the boards. Answers the number of bytes written.
-pub fn share(sizes: Sizes, points: [u8; 32], node: usize, file: &[u8], out: &mut [u8]) -> Answer
+pub fn share(
+    sizes: Sizes,
+    points: [u8; 32],
+    node: usize,
+    file: &[u8],
+    out: &mut [u8],
+) -> Result<usize, Refusal>
     ensures { outcome result out.new ≡ share_call sizes points node file.now out.old }
 {
-    if let Check::Refuse(x) = check_share(sizes, &points, node, file, out) {
-        return Answer::Refused(x);
-    }
+    check_share(sizes, &points, node, file, out)?;
     let stripes = board_lines::stripe_count(sizes, file.len());
     let count = stripes * sizes.share_len();
     encode_share::share(sizes, &points, node, file, stripes, out);
-    Answer::Done(count)
+    Ok(count)
 }

@@ -15,12 +15,10 @@ use Rattle.lists.specs.Lists.{Bytes, over}
 use Rattle.lists.specs.Tests.{pick, same, given}
 use Rattle.lists.proofs.Pieces.{length-joined}
 use Rattle.lists.proofs.Tests.{not-no, alls-hold, hold-alls}
-use Rattle.sizes.specs.Refusals.{number, said, Line, applies_in, first, board_order}
+use Rattle.sizes.specs.Refusals.{number, said, Line, applies_in, first, board_order, Check}
 use Rattle.sizes.specs.Sizing.{stripes, legal, B, α}
-use Rattle.sizes.specs.declared.Answer.TheVariants.{Done, Refused}
+use Rattle.std.specs.Prelude.{Ok, Err}
 use Rattle.sizes.proofs.Orders.{◌also◌, stands, none-off, off-pass, Only, only-off, only-first}
-use Rattle.sizes.specs.declared.Check.{Check}
-use Rattle.sizes.specs.declared.Check.TheVariants.{Pass, Refuse}
 use Rattle.sizes.specs.declared.Refusal.{Refusal}
 use Rattle.sizes.specs.declared.Refusal.TheVariants.{Size, Count, Node, Repeat, Short, Disagree}
 use Rattle.sizes.specs.declared.Sizes.{Sizes}
@@ -117,10 +115,10 @@ module _ (z : Sizes) (xs : List ℕ) where
 
 -- the outcome of a call that found this file, or none
 abbrev outcome : Option (List ℕ) → List ℕ → BoardOutcome
-outcome (some file) output = record { answer = said (Done (length file)); output = over file output }
-outcome none output = record { answer = said (Refused Disagree); output = output }
+outcome (some file) output = record { answer = said (Ok (length file)); output = over file output }
+outcome none output = record { answer = said (Err Disagree); output = output }
 
-found : (o : Option (List ℕ)) (output : List ℕ) → settled (pick (not (given o)) (Refuse Disagree) Pass) (file_of o) output ≡ outcome o output
+found : (o : Option (List ℕ)) (output : List ℕ) → settled (pick (not (given o)) (Err Disagree) (Ok tt)) (file_of o) output ≡ outcome o output
 found (some file) output = refl
 found none output = refl
 
@@ -157,20 +155,20 @@ module _ (z : Sizes) (xs : List ℕ) (L : ℕ) (boards held output : List ℕ) (
       ∙ found (read_file z xs L boards held) output ∙ ap (λ (o : Option (List ℕ)). outcome o output) e
 
   gives : (file : List ℕ) → length file ≡ L → Bytes file
-      → (file_call z xs L boards held output ≡ record { answer = said (Done L); output = over file output }) ↔ (shares z xs file boards ≡ held)
+      → (file_call z xs L boards held output ≡ record { answer = said (Ok L); output = over file output }) ↔ (shares z xs file boards ≡ held)
   gives file l bf = (there (read_file z xs L boards held) refl, back)
     where
       there : (o : Option (List ℕ)) → read_file z xs L boards held ≡ o
-          → file_call z xs L boards held output ≡ record { answer = said (Done L); output = over file output } → shares z xs file boards ≡ held
+          → file_call z xs L boards held output ≡ record { answer = said (Ok L); output = over file output } → shares z xs file boards ≡ held
       there none e q = absurd (omega (arith, ap (λ (o : BoardOutcome). o.answer.refusal) (sym (call-is none e) ∙ q)))
       there (some f) e q =
           let s = read-sound z xs facts pts boards boards-named count L held f bh e in
           ap (λ (f : List ℕ). shares z xs f boards) (sym (written f file output (s.0 ∙ sym l) (ap (λ (o : BoardOutcome). o.output) (sym (call-is (some f) e) ∙ q)))) ∙ s.2
 
-      back : shares z xs file boards ≡ held → file_call z xs L boards held output ≡ record { answer = said (Done L); output = over file output }
-      back e = call-is (some file) (read-complete z xs facts pts boards boards-named count L held file l bf e) ∙ ap (λ (v : ℕ). record { answer = said (Done v); output = over file output }) l
+      back : shares z xs file boards ≡ held → file_call z xs L boards held output ≡ record { answer = said (Ok L); output = over file output }
+      back e = call-is (some file) (read-complete z xs facts pts boards boards-named count L held file l bf e) ∙ ap (λ (v : ℕ). record { answer = said (Ok v); output = over file output }) l
 
-  refuses : (file_call z xs L boards held output ≡ record { answer = said (Refused Disagree); output = output })
+  refuses : (file_call z xs L boards held output ≡ record { answer = said (Err Disagree); output = output })
       ↔ ((file : List ℕ) → length file ≡ L → Bytes file → shares z xs file boards ≡ held → ⊥)
   refuses = (λ q. none_is.0 (there (read_file z xs L boards held) refl q), λ f. call-is none (none_is.1 f))
     where
@@ -178,7 +176,7 @@ module _ (z : Sizes) (xs : List ℕ) (L : ℕ) (boards held output : List ℕ) (
       none_is = read_none z xs facts pts boards boards-named count L held bh
 
       there : (o : Option (List ℕ)) → read_file z xs L boards held ≡ o
-          → file_call z xs L boards held output ≡ record { answer = said (Refused Disagree); output = output } → read_file z xs L boards held ≡ none
+          → file_call z xs L boards held output ≡ record { answer = said (Err Disagree); output = output } → read_file z xs L boards held ≡ none
       there none e q = e
       there (some f) e q = absurd (omega (arith, ap (λ (o : BoardOutcome). o.answer.refusal) (sym (call-is (some f) e) ∙ q)))
 
@@ -258,11 +256,11 @@ module _ (z : Sizes) (xs file boards output : List ℕ) (ok : legal z ≡ true) 
   shares-long = length-joined (stripes z (length file) * α z) (share z xs file) (λ i. length-share z xs (legal-facts z ok) file i) boards
       ∙ ap (λ (m : ℕ). m * (stripes z (length file) * α z)) h.0
 
-  reader-gives : file_call z xs (length file) boards (shares z xs file boards) output ≡ record { answer = said (Done (length file)); output = over file output }
+  reader-gives : file_call z xs (length file) boards (shares z xs file boards) output ≡ record { answer = said (Ok (length file)); output = over file output }
   unfolding file_call file_lines
   reader-gives =
       let held : List ℕ = shares z xs file boards in
-      let c : first board_order (file_lines z xs (length file) boards held output) ≡ Pass = off-pass (file_lines z xs (length file) boards held output) board_order
+      let c : first board_order (file_lines z xs (length file) boards held output) ≡ (Ok tt) = off-pass (file_lines z xs (length file) boards held output) board_order
       (ap not (hold-alls (legal z ∷ pointed z xs ∷ []) (ok, (taken, tt)))
       also le-ltb _ _ few
       also ap not (hold-alls (eqb (length boards) z.k ∷ []) (eq-eqb _ _ h.0, tt))
@@ -273,7 +271,7 @@ module _ (z : Sizes) (xs file boards output : List ℕ) (ok : legal z ≡ true) 
       also ap (λ (o : Option (List ℕ)). not (given o)) found-file
       also tt) in
       ap (λ (x : Check). settled x (file_of (read_file z xs (length file) boards held)) output) c
-      ∙ ap (λ (o : Option (List ℕ)). record { answer = said (Done (length (file_of o))); output = over (file_of o) output }) found-file
+      ∙ ap (λ (o : Option (List ℕ)). record { answer = said (Ok (length (file_of o))); output = over (file_of o) output }) found-file
 
 pub demand-1 : BoardCalls
 demand-1 = record {

@@ -12,7 +12,7 @@ use Rattle.lists.proofs.Tests.{true-false, all-every, every-all, not-no, alls-ho
 use Rattle.lists.proofs.Alls.{append-all, all-imp}
 use Rattle.lists.proofs.Boards.{among-cons, distinct-different}
 use Rattle.sizes.specs.declared.Sizes.{Sizes}
-use Rattle.sizes.specs.declared.Check.TheVariants.{Pass}
+use Rattle.std.specs.Prelude.{Ok}
 use Rattle.sizes.specs.Refusals.{Line, applies_in, first, board_order}
 use Rattle.sizes.specs.declared.Refusal.TheVariants.{Size, Node, Repeat}
 use Rattle.sizes.specs.Sizing.{legal}
@@ -95,26 +95,26 @@ record Passed (lines : List Line) : Type 0 where
   node : applies_in lines Node ≡ false
   repeat : applies_in lines Repeat ≡ false
 
-passed : (lines : List Line) → first board_order lines ≡ Pass → Passed lines
+passed : (lines : List Line) → first board_order lines ≡ Ok tt → Passed lines
 passed lines h = let off = clear-off lines board_order h in record { size = off Size refl; node = off Node refl; repeat = off Repeat refl }
 
 module _ (z : Sizes) (xs : List ℕ) (L : ℕ) where
   file-apart : (boards held output : List ℕ)
-      → first board_order (file_lines z xs L boards held output) ≡ Pass → equal_points xs (read_runs z boards) ≡ false
+      → first board_order (file_lines z xs L boards held output) ≡ Ok tt → equal_points xs (read_runs z boards) ≡ false
   unfolding file_lines
   file-apart boards held output h =
       let p = passed (file_lines z xs L boards held output) h in
       read-runs z xs (legal-of z xs p.size) (points-of z xs p.size) boards (named z boards p.node p.repeat)
 
   helper-apart : (helper receiver : ℕ) (held output : List ℕ)
-      → first board_order (helper_lines z xs L helper receiver held output) ≡ Pass → equal_points xs (own_runs z helper) ≡ false
+      → first board_order (helper_lines z xs L helper receiver held output) ≡ Ok tt → equal_points xs (own_runs z helper) ≡ false
   unfolding helper_lines
   helper-apart helper receiver held output h =
       let p = passed (helper_lines z xs L helper receiver held output) h in
       own-runs z xs (legal-of z xs p.size) (points-of z xs p.size) helper (named z (helper ∷ receiver ∷ []) p.node p.repeat).known.0
 
   exchange-apart : (board : ℕ) (helpers packets : List ℕ) (receiver : ℕ) (output : List ℕ)
-      → first board_order (exchange_lines z xs L board helpers packets receiver output) ≡ Pass → equal_points xs (exchange_runs helpers) ≡ false
+      → first board_order (exchange_lines z xs L board helpers packets receiver output) ≡ Ok tt → equal_points xs (exchange_runs helpers) ≡ false
   unfolding exchange_lines
   exchange-apart board helpers packets receiver output h =
       let p = passed (exchange_lines z xs L board helpers packets receiver output) h in
@@ -122,7 +122,7 @@ module _ (z : Sizes) (xs : List ℕ) (L : ℕ) where
       one-run z xs (points-of z xs p.size) helpers (record { known = b.known.1.1; once = b.once.1.1 })
 
   finished-apart : (board : ℕ) (helpers packets partners exchanges output : List ℕ)
-      → first board_order (finished_lines z xs L board helpers packets partners exchanges output) ≡ Pass
+      → first board_order (finished_lines z xs L board helpers packets partners exchanges output) ≡ Ok tt
       → equal_points xs (finish_runs board helpers partners) ≡ false
   unfolding finished_lines
   finished-apart board helpers packets partners exchanges output h =

@@ -1,17 +1,14 @@
 -- Document 01, 'The calls', board level: each call is a total function of its arguments to its answer and to every byte of the output
 -- that it was lent. `z` are the sizes, `xs` the boards' points, which each call "is given .. with the sizes" (request A.9), `L` the file's length.
 -- Assumes nothing.
-use Rattle.std.specs.Prelude.{Bool, not, List, [], ◌∷◌, ◌++◌, ℕ, ◌*◌, ◌-◌, ltb, eqb, length}
+use Rattle.std.specs.Prelude.{Bool, not, List, [], ◌∷◌, ◌++◌, ℕ, ◌*◌, ◌-◌, ltb, eqb, length, Ok, Err}
 use Rattle.std.proofs.Math.Option.{Option, some, none}
 use Rattle.lists.specs.Tests.{alls, below, different, given}
 use Rattle.lists.specs.Lists.{over}
 use Rattle.sizes.specs.declared.Sizes.{Sizes}
 use Rattle.sizes.specs.declared.Refusal.TheVariants.{Size, Area, Long, Count, Node, Repeat, Short, Disagree}
-use Rattle.sizes.specs.declared.Check.{Check}
-use Rattle.sizes.specs.declared.Check.TheVariants.{Pass, Refuse}
-use Rattle.sizes.specs.declared.Answer.TheVariants.{Done, Refused}
 use Rattle.sizes.specs.Sizing.{max_stripes, legal, α, B, stripes}
-use Rattle.sizes.specs.Refusals.{Said, said, Line, ◌when◌, first, board_order}
+use Rattle.sizes.specs.Refusals.{Said, said, Line, ◌when◌, first, board_order, Check}
 use Rattle.mbcr.specs.Share.{pointed, share}
 use Rattle.mbcr.specs.Rebuild.{helper_packet, exchange_packet, finished_share}
 use Rattle.mbcr.specs.Read.{read_file}
@@ -25,8 +22,8 @@ pub record BoardOutcome : Type 0 where
 -- a refusal gives its number and leaves the output as it came; else the bytes are written, and their number answered.
 -- "Output beyond the bytes written stays."
 abbrev pub settled : Check → List ℕ → List ℕ → BoardOutcome
-settled (Refuse x) bytes output = record { answer = said (Refused x); output = output }
-settled Pass bytes output = record { answer = said (Done (length bytes)); output = over bytes output }
+settled (Err x) bytes output = record { answer = said (Err x); output = output }
+settled (Ok tt) bytes output = record { answer = said (Ok (length bytes)); output = over bytes output }
 
 -- the bytes of a file, of which there are none where there is no file
 abbrev pub file_of : Option (List ℕ) → List ℕ

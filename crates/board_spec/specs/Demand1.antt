@@ -1,14 +1,13 @@
 -- Demand 1 at board level: every call ends, on all input, with its result or with the first refusal whose line holds, and a refusal changes
 -- no byte of the output. And what the bytes written are. proofs/Demand1.antt has `demand-1 : BoardCalls`.
 -- Assumes nothing.
-use Rattle.std.specs.Prelude.{◌≡◌, true, false, ◌≢◌, ◌↔◌, ◌⊎◌, List, [], ◌∷◌, ◌++◌, ℕ, ◌+◌, ◌*◌, ◌-◌, ◌≤◌, ◌<◌, ltb, length, get_or, take}
+use Rattle.std.specs.Prelude.{◌≡◌, true, false, ◌≢◌, ◌↔◌, ◌⊎◌, List, [], ◌∷◌, ◌++◌, ℕ, ◌+◌, ◌*◌, ◌-◌, ◌≤◌, ◌<◌, ltb, length, get_or, take, Ok, Err}
 use Rattle.std.proofs.Math.Option.{none}
 use Rattle.lists.specs.Tests.{pick, below, different}
 use Rattle.lists.specs.Lists.{All, Bytes, concat, joined, over}
 use Rattle.sizes.specs.declared.Sizes.{Sizes}
 use Rattle.sizes.specs.declared.Refusal.{Refusal}
 use Rattle.sizes.specs.declared.Refusal.TheVariants.{Size, Area, Long, Count, Node, Repeat, Short, Disagree}
-use Rattle.sizes.specs.declared.Answer.TheVariants.{Done, Refused}
 use Rattle.sizes.specs.Refusals.{said, Line, applies_in, board_order}
 use Rattle.sizes.specs.Laws.{First}
 use Rattle.mbcr.specs.Share.{point, standard, pointed, share, shares}
@@ -26,10 +25,10 @@ pub record BoardEnds (lines : List Line) (output bytes : List ℕ) (o : BoardOut
   -- some line is the first that holds, or none holds
   pub one : ((x : Refusal) × First board_order lines x) ⊎ All (λ x. applies_in lines x ≡ false) board_order
   -- "The first that applies is given", and all is as it came
-  pub refuses : (x : Refusal) → First board_order lines x → o ≡ record { answer = said (Refused x); output = output }
+  pub refuses : (x : Refusal) → First board_order lines x → o ≡ record { answer = said (Err x); output = output }
   -- "otherwise the call does its work": so many bytes are answered, they are written, and output beyond them stays
   pub works : All (λ x. applies_in lines x ≡ false) board_order
-      → (o ≡ record { answer = said (Done (length bytes)); output = over bytes output }) × (length bytes ≤ length output)
+      → (o ≡ record { answer = said (Ok (length bytes)); output = over bytes output }) × (length bytes ≤ length output)
 
 -- what the lines of each call say
 module _ (z : Sizes) (xs : List ℕ) where
@@ -128,14 +127,14 @@ pub record BoardCalls : Type 0 where
   -- "From k different boards' shares the reader gives the file they encode"
   pub reader-gives : (z : Sizes) (xs file boards output : List ℕ) → legal z ≡ true → pointed z xs ≡ true → Bytes file → length file ≤ max_stripes * B z
       → Named z z.k boards → length file ≤ length output
-      → file_call z xs (length file) boards (shares z xs file boards) output ≡ record { answer = said (Done (length file)); output = over file output }
+      → file_call z xs (length file) boards (shares z xs file boards) output ≡ record { answer = said (Ok (length file)); output = over file output }
   -- "a file from k shares": where no line but DISAGREE holds, it gives f exactly when f has length L and these shares,
   -- and DISAGREE exactly when there is no such file
   pub file-exact : (z : Sizes) (xs : List ℕ) (L : ℕ) (boards held output : List ℕ) → Bytes held
       → All (λ x. (x ≡ Disagree) ⊎ (applies_in (file_lines z xs L boards held output) x ≡ false)) board_order
       → ((file : List ℕ) → length file ≡ L → Bytes file
-      → (file_call z xs L boards held output ≡ record { answer = said (Done L); output = over file output }) ↔ (shares z xs file boards ≡ held))
-      × ((file_call z xs L boards held output ≡ record { answer = said (Refused Disagree); output = output })
+      → (file_call z xs L boards held output ≡ record { answer = said (Ok L); output = over file output }) ↔ (shares z xs file boards ≡ held))
+      × ((file_call z xs L boards held output ≡ record { answer = said (Err Disagree); output = output })
       ↔ ((file : List ℕ) → length file ≡ L → Bytes file → shares z xs file boards ≡ held → ⊥))
 
 -- the number that decimal digits spell, after the number v

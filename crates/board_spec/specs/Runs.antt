@@ -2,11 +2,10 @@
 -- call that interpolates: the boards at whose points it does (figures list some), and that these points differ where no check refuses.
 -- proofs/Runs.antt has `board-runs : BoardRuns`.
 -- Assumes nothing.
-use Rattle.std.specs.Prelude.{◌≡◌, Bool, true, false, not, ◌↔◌, ◌⊎◌, List, [], ◌∷◌, ◌++◌, map, ℕ, ◌+◌, take, drop}
+use Rattle.std.specs.Prelude.{◌≡◌, Bool, true, false, not, ◌↔◌, ◌⊎◌, List, [], ◌∷◌, ◌++◌, map, ℕ, ◌+◌, take, drop, Ok}
 use Rattle.lists.specs.Tests.{every, among, different}
 use Rattle.lists.specs.Lists.{All, concat, tabulate}
 use Rattle.sizes.specs.declared.Sizes.{Sizes}
-use Rattle.sizes.specs.declared.Check.TheVariants.{Pass}
 use Rattle.sizes.specs.Refusals.{first, board_order}
 use Rattle.polynomial.specs.Polynomial.{eval, interpolate}
 use Rattle.mbcr.specs.Share.{point, points, neighbours}
@@ -80,11 +79,11 @@ pub record BoardRuns : Type 0 where
   pub finish-are : (z : Sizes) (xs : List ℕ) (i : ℕ) (helpers partners : List ℕ) → FinishAre z xs i helpers partners
   pub read-are : (z : Sizes) (xs boards : List ℕ) → ReadAre z xs boards
   pub file-apart : (z : Sizes) (xs : List ℕ) (L : ℕ) (boards held output : List ℕ)
-      → first board_order (file_lines z xs L boards held output) ≡ Pass → equal_points xs (read_runs z boards) ≡ false
+      → first board_order (file_lines z xs L boards held output) ≡ Ok tt → equal_points xs (read_runs z boards) ≡ false
   pub helper-apart : (z : Sizes) (xs : List ℕ) (L helper receiver : ℕ) (held output : List ℕ)
-      → first board_order (helper_lines z xs L helper receiver held output) ≡ Pass → equal_points xs (own_runs z helper) ≡ false
+      → first board_order (helper_lines z xs L helper receiver held output) ≡ Ok tt → equal_points xs (own_runs z helper) ≡ false
   pub exchange-apart : (z : Sizes) (xs : List ℕ) (L board : ℕ) (helpers packets : List ℕ) (receiver : ℕ) (output : List ℕ)
-      → first board_order (exchange_lines z xs L board helpers packets receiver output) ≡ Pass → equal_points xs (exchange_runs helpers) ≡ false
+      → first board_order (exchange_lines z xs L board helpers packets receiver output) ≡ Ok tt → equal_points xs (exchange_runs helpers) ≡ false
   pub finished-apart : (z : Sizes) (xs : List ℕ) (L board : ℕ) (helpers packets partners exchanges output : List ℕ)
-      → first board_order (finished_lines z xs L board helpers packets partners exchanges output) ≡ Pass
+      → first board_order (finished_lines z xs L board helpers packets partners exchanges output) ≡ Ok tt
       → equal_points xs (finish_runs board helpers partners) ≡ false

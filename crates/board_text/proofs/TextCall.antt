@@ -14,10 +14,8 @@ use Rattle.lists.proofs.Boards.{below_all}
 use Rattle.sizes.specs.declared.Sizes.{Sizes}
 use Rattle.sizes.specs.declared.Refusal.{Refusal}
 use Rattle.sizes.specs.declared.Refusal.TheVariants.{Size, Long, Node, Area, Short}
-use Rattle.sizes.specs.declared.Check.{Check}
-use Rattle.sizes.specs.declared.Check.TheVariants.{Pass, Refuse}
-use Rattle.sizes.specs.declared.Answer.TheVariants.{Done, Refused}
-use Rattle.sizes.specs.Refusals.{first, board_order}
+use Rattle.std.specs.Prelude.{Ok, Err}
+use Rattle.sizes.specs.Refusals.{first, board_order, Check}
 use Rattle.sizes.specs.Sizing.{α, stripes}
 use Rattle.sizes.proofs.Legal.{legal-facts, α-most, B-most, stripes-least}
 use Rattle.sizes.proofs.Orders.{clear-off}
@@ -31,7 +29,7 @@ use Rattle.text_writer.specs.Steps.{Writes, Fits}
 
 -- what the writer asks, from the lines before SHORT
 pub writes : (z : Sizes) (xs : List ℕ) (L node m : ℕ) → Stated z L → length xs ≡ 32
-    → asked (node_line z (node ∷ [])) ≡ Pass → asked (area_line (eqb m (stripes z L * α z) ∷ [])) ≡ Pass
+    → asked (node_line z (node ∷ [])) ≡ Ok tt → asked (area_line (eqb m (stripes z L * α z) ∷ [])) ≡ Ok tt
     → Writes z xs L node m
 writes z xs L node m s l n a =
     let f = legal-facts z s.is-legal in
@@ -49,24 +47,24 @@ module _ (z : Sizes) (xs : List ℕ) (L node : ℕ) (held output : List ℕ) whe
   abbrev pub checked : Check
   checked = first board_order (text_lines z xs L node held output)
 
-  pub text-writes : checked ≡ Pass → Writes z xs L node (length held)
+  pub text-writes : checked ≡ Ok tt → Writes z xs L node (length held)
   unfolding text_lines
   text-writes h =
       let off = clear-off (text_lines z xs L node held output) board_order h in
       writes z xs L node (length held) (stated-of z xs L (off Size refl) (off Long refl)) (taken_of z xs (off Size refl)).long (rw (off Node refl)) (rw (off Area refl))
 
-  pub text-fits : checked ≡ Pass → Fits z xs L node held output
+  pub text-fits : checked ≡ Ok tt → Fits z xs L node held output
   unfolding text_lines
   text-fits h =
       let off = clear-off (text_lines z xs L node held output) board_order h in
       record { has-points = (text-writes h).has-points; has_room = ltb-false _ _ (off Short refl) }
 
-  pub text-refuses : {x : Refusal} → checked ≡ Refuse x → outcome (Refused x) output ≡ text_call z xs L node held output
+  pub text-refuses : {x : Refusal} → checked ≡ Err x → outcome (Err x) output ≡ text_call z xs L node held output
   unfolding text_call
   text-refuses e = refused-by (share_text z xs L node held) output e
 
-  pub text-works : (written : List ℕ) (count : ℕ) → checked ≡ Pass → count ≡ length (share_text z xs L node held) → written ≡ over (share_text z xs L node held) output
-      → outcome (Done count) written ≡ text_call z xs L node held output
+  pub text-works : (written : List ℕ) (count : ℕ) → checked ≡ Ok tt → count ≡ length (share_text z xs L node held) → written ≡ over (share_text z xs L node held) output
+      → outcome (Ok count) written ≡ text_call z xs L node held output
   unfolding text_call
   text-works written count p many e =
       done-by (share_text z xs L node held) output written count p (sym many) (e ∙ ap (λ (m : ℕ). share_text z xs L node held ++ drop m output) (sym many))

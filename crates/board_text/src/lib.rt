@@ -9,9 +9,9 @@ ghost use Rattle.sizes.specs.Refusals.{first, board_order};
 ghost use Rattle.board_spec.specs.Calls.{text_lines, text_call};
 ghost use Rattle.board_lines.specs.Outcomes.{outcome};
 
-use sizes::{Answer, Check, Sizes};
+use sizes::{Refusal, Sizes};
 
-// The first refusal of a text of this share. Each check's answer is taken apart, and a refusal returned early.
+// The first refusal of a text of this share. Each check's refusal is passed on.
 fn check_text(
     sizes: Sizes,
     points: &[u8],
@@ -19,20 +19,14 @@ fn check_text(
     node: usize,
     held: &[u8],
     out: &[u8],
-) -> Check
+) -> Result<(), Refusal>
     ensures { result ≡ first board_order (text_lines sizes points.now len node held.now out.now) }
 {
-    if let Check::Refuse(stated) = board_lines::check_stated(sizes, points, len) {
-        return Check::Refuse(stated);
-    }
-    if let Check::Refuse(named) = line_checks::check_node(sizes, node) {
-        return Check::Refuse(named);
-    }
+    board_lines::check_stated(sizes, points, len)?;
+    line_checks::check_node(sizes, node)?;
     let stripes = board_lines::stripe_count(sizes, len);
     let share_len = stripes * sizes.share_len();
-    if let Check::Refuse(lent) = board_lines::check_lent(held.len(), share_len) {
-        return Check::Refuse(lent);
-    }
+    board_lines::check_lent(held.len(), share_len)?;
     line_checks::check_room(
         out,
         text_writer::text_len(sizes, points, len, node, held.len()),
@@ -47,13 +41,11 @@ pub fn text(
     node: usize,
     held: &[u8],
     out: &mut [u8],
-) -> Answer
+) -> Result<usize, Refusal>
     ensures { outcome result out.new ≡ text_call sizes points len node held.now out.old }
 {
-    if let Check::Refuse(x) = check_text(sizes, &points, len, node, held, out) {
-        return Answer::Refused(x);
-    }
+    check_text(sizes, &points, len, node, held, out)?;
     let text_len = text_writer::text_len(sizes, &points, len, node, held.len());
     text_writer::write_text(sizes, &points, len, node, held, out);
-    Answer::Done(text_len)
+    Ok(text_len)
 }

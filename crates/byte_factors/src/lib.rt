@@ -14,13 +14,10 @@ ghost use Rattle.lagrange_factors.specs.Steps.{factors_for};
 fn product(xs: &[u8], y: u8) -> u8
     ensures { result ≡ differences xs.now y }
 {
-    let m = xs.len();
     let mut total: u8 = 1;
-    let mut u: usize = 0;
-    while u < m {
+    for x in xs {
         let f = gf256_mul::multiples_of(total);
-        total = gf256_mul::times(f, y ^ xs[u]);
-        u += 1;
+        total = gf256_mul::times(f, y ^ *x);
     }
     total
 }
@@ -53,12 +50,9 @@ fn factors_of(xs: &[u8], inverses: &[u8], y: u8, out: &mut [u8])
     requires { (inverses.now ≡ tabulate 256 inverse) × (length xs.now ≤ length out.old) × (length out.old ≤ 32) }
     ensures { out.new ≡ fit (length out.old) (tabulate (length xs.now) (λ t. weight xs.now t y)) }
 {
-    let m = xs.len();
     row_dots::clear(out);
-    let mut t: usize = 0;
-    while t < m {
+    for t in 0..xs.len() {
         out[t] = factor(xs, t, inverses, y);
-        t += 1;
     }
 }
 

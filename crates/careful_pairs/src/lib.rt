@@ -29,12 +29,8 @@ pub fn leave_pair(boards: &[usize], p: usize, out: &mut [usize])
     requires { (p + 2 ≤ length boards.now) × (length out.old ≤ 32) × (length out.old + 2 ≡ length boards.now) }
     ensures { out.new ≡ leaving_pair p boards.now }
 {
-    let m = out.len();
-    let mut t: usize = 0;
-    while t < m {
-        let at = place(p, t);
-        out[t] = boards[at];
-        t += 1;
+    for t in 0..out.len() {
+        out[t] = boards[place(p, t)];
     }
 }
 

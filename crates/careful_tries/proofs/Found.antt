@@ -16,7 +16,7 @@ use Rattle.lists.proofs.Boards.{below_all, all-below}
 use Rattle.lists.proofs.Tests.{true-false, not-no}
 use Rattle.sizes.specs.declared.Refusal.{Refusal}
 use Rattle.sizes.specs.declared.Refusal.TheVariants.{Disagree}
-use Rattle.sizes.specs.declared.Check.TheVariants.{Pass, Refuse}
+use Rattle.std.specs.Prelude.{Ok, Err}
 use Rattle.sizes.specs.Refusals.{◌when◌}
 use Rattle.mbcr.specs.Demand2.{Named}
 use Rattle.mbcr.specs.Share.{share}
@@ -213,10 +213,10 @@ module _ (s : Record) (area : List ℕ) (g : Sound s) (area-is : length area ≡
 
 -- ---- DISAGREE, as a try asks it
 
-pub refused_none : (b : Bool) {x : Refusal} → asked (Disagree when not b) ≡ Refuse x → b ≡ false
+pub refused_none : (b : Bool) {x : Refusal} → asked (Disagree when not b) ≡ Err x → b ≡ false
 refused_none b {x} e = not-true b (refused (Disagree when not b) x e).0
 
-pub passed-some : (b : Bool) → asked (Disagree when not b) ≡ Pass → b ≡ true
+pub passed-some : (b : Bool) → asked (Disagree when not b) ≡ Ok tt → b ≡ true
 passed-some b e = not-no b (passed (Disagree when not b) e)
 
 -- ---- the bytes that are written

@@ -18,7 +18,6 @@ ghost use Rattle.careful_tries.specs.Steps.{Careful, Found};
 
 use careful_pairs::Tried;
 use record::Kept;
-use sizes::Check;
 
 // One try, without the boards at places p and p + 1: whether the others hold a file, and one of the two, at least, its share of it. Stripes are looked at
 // from one on. The others go to chosen, and the tables of a read from them to tables.
@@ -49,7 +48,7 @@ fn try_pair(
     if !told.found {
         return told;
     }
-    if let Check::Refuse(disagree) = decode_area::check_agrees(
+    if decode_area::check_agrees(
         sizes,
         kept.capacity,
         &points,
@@ -58,7 +57,9 @@ fn try_pair(
         chosen,
         area,
         tables,
-    ) {
+    )
+    .is_err()
+    {
         return Tried {
             found: false,
             odd: 0,

@@ -5,7 +5,7 @@ use mathlib.Core.Path.{◌≡◌, refl}
 use mathlib.Core.Bool.{true}
 use borrow.Author.Tests.{eqb-true}
 use Rattle.lists.proofs.Tests.{not-no}
-use Rattle.sizes.specs.declared.Check.TheVariants.{Pass}
+use Rattle.std.specs.Prelude.{Ok}
 use Rattle.sizes.specs.declared.Refusal.TheVariants.{Size, Area}
 use Rattle.sizes.specs.Refusals.{first, store_order}
 use Rattle.sizes.proofs.Orders.{clear-off}
@@ -19,7 +19,7 @@ pub record Lent (s : Record) (p : Running) (m : ℕ) : Type 0 where
   pub is-beside : sound_beside s p ≡ true
   pub area-is : m ≡ area_len s
 
-pub area-facts : (s : Record) (p : Running) (m : ℕ) → first store_order (area_lines s p m) ≡ Pass → Lent s p m
+pub area-facts : (s : Record) (p : Running) (m : ℕ) → first store_order (area_lines s p m) ≡ Ok tt → Lent s p m
 area-facts s p m h =
     let off = clear-off (area_lines s p m) store_order h in
     let e = both_facts s p (off Size refl) in

@@ -1,4 +1,4 @@
-//! The check of an edit (request A.6): its lines in their order, up to DOWN. Each check's answer is taken apart, and a refusal returned early.
+//! The check of an edit (request A.6): its lines in their order, up to DOWN.
 //! DISAGREE, which is behind them all, is asked by `decode_area`.
 
 #![tactic(auto)]
@@ -9,7 +9,7 @@ ghost use Rattle.record.specs.Records.{record_of, running_in};
 ghost use Rattle.check_edit.specs.Steps.{asked_lines};
 
 use record::{Kept, Running};
-use sizes::Check;
+use sizes::Refusal;
 
 // The first refusal of an edit of so many bytes at an offset, with these boards to read from, DISAGREE aside, to an area of so many bytes.
 pub fn check_edit(
@@ -19,22 +19,14 @@ pub fn check_edit(
     offset: usize,
     count: usize,
     boards: &[usize],
-) -> Check
+) -> Result<(), Refusal>
     ensures { result ≡ first store_order (asked_lines (record_of kept) (running_in running) lent offset count boards.now) }
 {
     let sizes = kept.sizes;
     let marks = kept.marks;
-    if let Check::Refuse(area) = check_begin::check_area(kept, running, lent) {
-        return Check::Refuse(area);
-    }
-    if let Check::Refuse(empty) = store_lines::check_written(kept.written) {
-        return Check::Refuse(empty);
-    }
-    if let Check::Refuse(busy) = store_lines::check_busy(running.running) {
-        return Check::Refuse(busy);
-    }
-    if let Check::Refuse(beyond) = check_range::check_range(kept.length, offset, count) {
-        return Check::Refuse(beyond);
-    }
+    check_begin::check_area(kept, running, lent)?;
+    store_lines::check_written(kept.written)?;
+    store_lines::check_busy(running.running)?;
+    check_range::check_range(kept.length, offset, count)?;
     check_begin::check_boards(sizes, sizes.k, &marks, boards)
 }

@@ -1,5 +1,4 @@
-//! The check of the lists of a repair: who is named fresh, who helps and who stands in, in document 01's order. Each check's answer is taken apart,
-//! and a refusal returned early.
+//! The check of the lists of a repair: who is named fresh, who helps and who stands in, in document 01's order.
 
 #![tactic(auto)]
 
@@ -14,16 +13,21 @@ ghost use Rattle.store_spec.specs.Calls.{list_lines};
 ghost use Rattle.line_checks.specs.Steps.{asked};
 ghost use Rattle.list_tests.specs.Steps.{Runs, named, repeat_tests};
 
-use sizes::{Check, Refusal, Sizes};
+use sizes::{Refusal, Sizes};
 
 // 5 NODE of three lists.
-pub fn check_three_lists(sizes: Sizes, boards: &[usize], others: &[usize], more: &[usize]) -> Check
+pub fn check_three_lists(
+    sizes: Sizes,
+    boards: &[usize],
+    others: &[usize],
+    more: &[usize],
+) -> Result<(), Refusal>
     ensures { result ≡ asked (node_line sizes (boards.now ++ (others.now ++ more.now))) }
 {
     if line_tests::below(sizes.n, boards) {
         return store_lines::check_two_lists(sizes, others, more);
     }
-    Check::Refuse(Refusal::Node)
+    Err(Refusal::Node)
 }
 
 // Whether no board stands twice among the d helpers and e stand-ins of one fresh board.
@@ -31,15 +35,10 @@ fn runs_differ(d: usize, e: usize, fresh: &[usize], helpers: &[usize], standins:
     requires { Runs d e fresh.now helpers.now standins.now }
     ensures { result ≡ every (λ h. different h.senders) (hear_named d e fresh.now helpers.now standins.now) }
 {
-    let mut a: usize = 0;
-    while a < fresh.len() {
+    for a in 0..fresh.len() {
         let from = a * d;
-        let to = from + d;
         let start = a * e;
-        let end = start + e;
-        if list_tests::both_differ(&helpers[from..to], &standins[start..end]) {
-            a += 1;
-        } else {
+        if !list_tests::both_differ(&helpers[from..from + d], &standins[start..start + e]) {
             return false;
         }
     }
@@ -53,7 +52,7 @@ pub fn check_named(
     fresh: &[usize],
     helpers: &[usize],
     standins: &[usize],
-) -> Check
+) -> Result<(), Refusal>
     requires { Runs d e fresh.now helpers.now standins.now }
     ensures { result ≡ asked (Repeat when not (alls (repeat_tests d e fresh.now helpers.now standins.now))) }
 {
@@ -61,77 +60,63 @@ pub fn check_named(
         if runs_differ(d, e, fresh, helpers, standins) {
             if line_tests::apart(fresh, helpers) {
                 if line_tests::apart(fresh, standins) {
-                    return Check::Pass;
+                    return Ok(());
                 }
             }
         }
     }
-    Check::Refuse(Refusal::Repeat)
+    Err(Refusal::Repeat)
 }
 
 // Whether each board is out of service.
 fn all_out(marks: &[bool], boards: &[usize]) -> bool
     ensures { result ≡ every (λ i. not (get_or marks.now i false)) boards.now }
 {
-    let mut t: usize = 0;
-    while t < boards.len() {
-        if store_lines::mark_of(marks, boards[t]) {
+    for board in boards {
+        if store_lines::mark_of(marks, *board) {
             return false;
         }
-        t += 1;
     }
     true
 }
 
 // 14 SERVING.
-pub fn check_out(marks: &[bool], boards: &[usize]) -> Check
+pub fn check_out(marks: &[bool], boards: &[usize]) -> Result<(), Refusal>
     ensures { result ≡ asked (Serving when not (every (λ i. not (get_or marks.now i false)) boards.now)) }
 {
     if all_out(marks, boards) {
-        Check::Pass
+        Ok(())
     } else {
-        Check::Refuse(Refusal::Serving)
+        Err(Refusal::Serving)
     }
 }
 
 // 9 DOWN of two lists.
-pub fn check_both_service(marks: &[bool], boards: &[usize], others: &[usize]) -> Check
+pub fn check_both_service(marks: &[bool], boards: &[usize], others: &[usize]) -> Result<(), Refusal>
     ensures { result ≡ asked (Down when not (every (λ i. get_or marks.now i false) (boards.now ++ others.now))) }
 {
     if store_lines::all_on(marks, boards) {
         return store_lines::check_service(marks, others);
     }
-    Check::Refuse(Refusal::Down)
+    Err(Refusal::Down)
 }
 
 // The first refusal of the lists of a repair, on a record of these sizes and marks.
+#[tactic(auto, unfolding(store_spec::specs::Calls::list_lines))]
 pub fn check_lists(
     sizes: Sizes,
     marks: &[bool],
     fresh: &[usize],
     helpers: &[usize],
     standins: &[usize],
-) -> Check
+) -> Result<(), Refusal>
     requires { legal sizes ≡ true }
     ensures { result ≡ first store_order (list_lines (named sizes marks.now) fresh.now helpers.now standins.now) }
 {
-    if let Check::Refuse(count) = list_tests::check_named_counts(
-        sizes,
-        fresh.len(),
-        helpers.len(),
-        standins.len(),
-    ) {
-        return Check::Refuse(count);
-    }
-    if let Check::Refuse(node) = check_three_lists(sizes, fresh, helpers, standins) {
-        return Check::Refuse(node);
-    }
+    list_tests::check_named_counts(sizes, fresh.len(), helpers.len(), standins.len())?;
+    check_three_lists(sizes, fresh, helpers, standins)?;
     let each = sizes.r - fresh.len();
-    if let Check::Refuse(repeat) = check_named(sizes.d, each, fresh, helpers, standins) {
-        return Check::Refuse(repeat);
-    }
-    if let Check::Refuse(serving) = check_out(marks, fresh) {
-        return Check::Refuse(serving);
-    }
+    check_named(sizes.d, each, fresh, helpers, standins)?;
+    check_out(marks, fresh)?;
     check_both_service(marks, helpers, standins)
 }

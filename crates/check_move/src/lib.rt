@@ -1,4 +1,4 @@
-//! The check of a move (request A.10): its lines in their order. Each check's answer is taken apart, and a refusal returned early.
+//! The check of a move (request A.10): its lines in their order.
 
 #![tactic(auto)]
 
@@ -8,9 +8,10 @@ ghost use Rattle.beside_spec.specs.Both.{move_lines_both};
 ghost use Rattle.record.specs.Records.{record_of, running_in};
 
 use record::{Kept, Running};
-use sizes::{Check, Refusal};
+use sizes::Refusal;
 
 // The first refusal of a move of a board to a new point by these helpers and partners, in an area of so many bytes.
+#[tactic(auto, unfolding(beside_spec::specs::Both::move_lines_both, store_spec::specs::Move::move_lines))]
 pub fn check_move(
     kept: Kept,
     running: Running,
@@ -19,20 +20,14 @@ pub fn check_move(
     point: u8,
     helpers: &[usize],
     partners: &[usize],
-) -> Check
+) -> Result<(), Refusal>
     ensures { result ≡ first store_order (move_lines_both (record_of kept) (running_in running) lent board point helpers.now partners.now) }
 {
     let sizes = kept.sizes;
     let points = kept.points;
     let marks = kept.marks;
-    if let Check::Refuse(area) = check_begin::check_area(kept, running, lent) {
-        return Check::Refuse(area);
-    }
-    if let Check::Refuse(empty) = store_lines::check_written(kept.written) {
-        return Check::Refuse(empty);
-    }
-    if let Check::Refuse(busy) = store_lines::check_busy(running.running) {
-        return Check::Refuse(busy);
-    }
+    check_begin::check_area(kept, running, lent)?;
+    store_lines::check_written(kept.written)?;
+    store_lines::check_busy(running.running)?;
     move_names::check_named(sizes, &points, &marks, board, point, helpers, partners)
 }

@@ -1,4 +1,4 @@
-//! The check of a repair, and of a start (request A.8), which asks the same: its lines in document 01's order. Each check's answer is taken apart, and a refusal returned early.
+//! The check of a repair, and of a start (request A.8), which asks the same: its lines in document 01's order.
 
 #![tactic(auto)]
 
@@ -8,9 +8,10 @@ ghost use Rattle.beside_spec.specs.Both.{repair_lines_both};
 ghost use Rattle.record.specs.Records.{record_of, running_in};
 
 use record::{Kept, Running};
-use sizes::Check;
+use sizes::Refusal;
 
 // The first refusal of a repair, or a start, of these fresh boards by these helpers and stand-ins, to an area of so many bytes.
+#[tactic(auto, unfolding(beside_spec::specs::Both::repair_lines_both, store_spec::specs::Calls::repair_lines, store_spec::specs::Calls::list_lines))]
 pub fn check_repair(
     kept: Kept,
     running: Running,
@@ -18,19 +19,13 @@ pub fn check_repair(
     fresh: &[usize],
     helpers: &[usize],
     standins: &[usize],
-) -> Check
+) -> Result<(), Refusal>
     ensures { result ≡ first store_order (repair_lines_both (record_of kept) (running_in running) lent fresh.now helpers.now standins.now) }
 {
     let sizes = kept.sizes;
     let marks = kept.marks;
-    if let Check::Refuse(area) = check_begin::check_area(kept, running, lent) {
-        return Check::Refuse(area);
-    }
-    if let Check::Refuse(empty) = store_lines::check_written(kept.written) {
-        return Check::Refuse(empty);
-    }
-    if let Check::Refuse(busy) = store_lines::check_busy(running.running) {
-        return Check::Refuse(busy);
-    }
+    check_begin::check_area(kept, running, lent)?;
+    store_lines::check_written(kept.written)?;
+    store_lines::check_busy(running.running)?;
     check_lists::check_lists(sizes, &marks, fresh, helpers, standins)
 }

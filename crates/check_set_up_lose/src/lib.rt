@@ -1,5 +1,4 @@
-//! The checks of the two calls that are lent no bytes, setting up and losing: their lines in document 01's order. Each check's answer is taken
-//! apart, and a refusal returned early.
+//! The checks of the two calls that are lent no bytes, setting up and losing: their lines in document 01's order.
 
 #![tactic(auto)]
 
@@ -11,10 +10,10 @@ ghost use Rattle.beside_spec.specs.Both.{lose_lines_both};
 ghost use Rattle.record.specs.Records.{record_of, running_in};
 
 use record::{Kept, Running};
-use sizes::{Check, Sizes};
+use sizes::{Refusal, Sizes};
 
 // The first refusal of setting up a store of these sizes, these points and this capacity.
-pub fn check_set_up(sizes: Sizes, points: [u8; 32], capacity: usize) -> Check
+pub fn check_set_up(sizes: Sizes, points: [u8; 32], capacity: usize) -> Result<(), Refusal>
     ensures { result ≡ first store_order (record_line (new_record sizes points capacity) ∷ []) }
 {
     let kept = record::new_kept(sizes, points, capacity);
@@ -22,12 +21,11 @@ pub fn check_set_up(sizes: Sizes, points: [u8; 32], capacity: usize) -> Check
 }
 
 // The first refusal of losing this board.
-pub fn check_lose(kept: Kept, running: Running, board: usize) -> Check
+#[tactic(auto, unfolding(beside_spec::specs::Both::lose_lines_both, store_spec::specs::Calls::lose_lines))]
+pub fn check_lose(kept: Kept, running: Running, board: usize) -> Result<(), Refusal>
     ensures { result ≡ first store_order (lose_lines_both (record_of kept) (running_in running) board) }
 {
-    if let Check::Refuse(size) = running::check_both(kept, running) {
-        return Check::Refuse(size);
-    }
+    running::check_both(kept, running)?;
     let sizes = kept.sizes;
     line_checks::check_node(sizes, board)
 }

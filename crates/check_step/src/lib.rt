@@ -1,4 +1,4 @@
-//! The check of a step (request A.8): its lines in their order. Each check's answer is taken apart, and a refusal returned early.
+//! The check of a step (request A.8): its lines in their order.
 
 #![tactic(auto)]
 
@@ -13,15 +13,15 @@ ghost use Rattle.line_checks.specs.Steps.{asked};
 ghost use Rattle.record.specs.Records.{record_of, running_in};
 
 use record::{Kept, Running};
-use sizes::Check;
+use sizes::Refusal;
 
 // 2 AREA, of a packet area of so many bytes: "with none running its length is not checked".
-fn check_packets(kept: Kept, running: Running, lent: usize) -> Check
+fn check_packets(kept: Kept, running: Running, lent: usize) -> Result<(), Refusal>
     requires { (sound (record_of kept) ≡ true) × (sound_beside (record_of kept) (running_in running) ≡ true) }
     ensures { result ≡ asked (Area when not (pick running.running (eqb lent (packets_len (record_of kept) (length (fresh_of (running_in running))))) true)) }
 {
     if !running.running {
-        return Check::Pass;
+        return Ok(());
     }
     let sizes = kept.sizes;
     let stripes = board_lines::stripe_count(sizes, kept.length);
@@ -30,17 +30,12 @@ fn check_packets(kept: Kept, running: Running, lent: usize) -> Check
 }
 
 // The first refusal of a step, on an area and a packet area of so many bytes.
-pub fn check_step(kept: Kept, running: Running, lent: usize, packets: usize) -> Check
+#[tactic(auto, unfolding(beside_spec::specs::Both::step_lines))]
+pub fn check_step(kept: Kept, running: Running, lent: usize, packets: usize) -> Result<(), Refusal>
     ensures { result ≡ first store_order (step_lines (record_of kept) (running_in running) lent packets) }
 {
-    if let Check::Refuse(area) = check_begin::check_area(kept, running, lent) {
-        return Check::Refuse(area);
-    }
-    if let Check::Refuse(packet) = check_packets(kept, running, packets) {
-        return Check::Refuse(packet);
-    }
-    if let Check::Refuse(empty) = store_lines::check_written(kept.written) {
-        return Check::Refuse(empty);
-    }
+    check_begin::check_area(kept, running, lent)?;
+    check_packets(kept, running, packets)?;
+    store_lines::check_written(kept.written)?;
     store_lines::check_idle(running.running)
 }

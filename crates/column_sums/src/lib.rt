@@ -29,20 +29,17 @@ pub fn row_sum(tables: &[u8], cs: &[u8]) -> Row
     requires { (length cs.now ≤ 32) × (length cs.now * 512 ≤ length tables.now) }
     ensures { (rows : List (List ℕ)) → length cs.now ≤ length rows → Wide rows → Tabled rows tables.now → row_bytes result ≡ combined cs.now rows }
 {
-    let m = cs.len();
     let mut sum = Row {
         a: 0,
         b: 0,
         c: 0,
         d: 0,
     };
-    let mut i: usize = 0;
-    while i < m {
+    for i in 0..cs.len() {
         let at = i * 512;
         let end = at + 512;
         let p = product(&tables[at..end], cs[i]);
         sum = row_sums::plus(sum, p);
-        i += 1;
     }
     sum
 }
@@ -58,14 +55,12 @@ pub fn column_sum(tables: &[u8], lines: &[u8], j: usize, m: usize) -> Row
         c: 0,
         d: 0,
     };
-    let mut i: usize = 0;
-    while i < m {
+    for i in 0..m {
         let at = i * 512;
         let end = at + 512;
         let from = i * 32 + j;
         let p = product(&tables[at..end], lines[from]);
         sum = row_sums::plus(sum, p);
-        i += 1;
     }
     sum
 }

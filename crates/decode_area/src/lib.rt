@@ -14,18 +14,15 @@ ghost use Rattle.store_lines.specs.Steps.{record_of};
 ghost use Rattle.decode_stripe.specs.Steps.{Asked};
 ghost use Rattle.decode_setup.specs.Steps.{Made};
 
-use sizes::{Check, Refusal, Sizes};
+use sizes::{Refusal, Sizes};
 
 // Where the parts of boards start, in an area of parts of so many bytes.
 pub fn places(boards: &[usize], part: usize, out: &mut [usize])
     requires { (below 32 boards.now ≡ true) × (part ≤ 253952) × (length boards.now ≤ 32) × (length out.old ≡ length boards.now) }
     ensures { out.new ≡ map (λ b. b * part) boards.now }
 {
-    let n = boards.len();
-    let mut t: usize = 0;
-    while t < n {
+    for t in 0..boards.len() {
         out[t] = boards[t] * part;
-        t += 1;
     }
 }
 
@@ -49,7 +46,7 @@ pub fn check_agrees(
     boards: &[usize],
     area: &[u8],
     tables: &[u8],
-) -> Check
+) -> Result<(), Refusal>
     requires { Asked sizes points.now boards.now × (stripes ≡ stripesOf sizes len) × (capacity ≤ 4096) × (stripes ≤ capacity) × (length area.now ≡ sizes.n * (capacity * α sizes)) × Made sizes points.now boards.now tables.now }
     ensures { result ≡ asked (Refusal.Disagree when not (given (read_file sizes points.now len boards.now (joined (held (record_of sizes [] capacity true len []) area.now) boards.now)))) }
 {
@@ -67,9 +64,9 @@ pub fn check_agrees(
         area,
         tables,
     ) {
-        Check::Pass
+        Ok(())
     } else {
-        Check::Refuse(Refusal::Disagree)
+        Err(Refusal::Disagree)
     }
 }
 

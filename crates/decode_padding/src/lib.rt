@@ -16,13 +16,10 @@ use sizes::Sizes;
 fn zeros(a: &[u8]) -> bool
     ensures { result ≡ zeros a.now }
 {
-    let n = a.len();
-    let mut i: usize = 0;
-    while i < n {
+    for i in 0..a.len() {
         if a[i] != 0 {
             return false;
         }
-        i += 1;
     }
     true
 }

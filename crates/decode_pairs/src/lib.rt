@@ -50,15 +50,12 @@ fn board_meets(
     requires { (n ≤ 32) × (d ≤ n) × (w ≤ n) × (p ≤ 32) × (m ≤ 32) × (length boards.now ≤ 32) × (below n boards.now ≡ true) × (length boards.now * ((n - w) * 32) ≤ length ff.now) × (length boards.now * ((n - d) * 32) ≤ length gf.now) × (length fs.now ≡ length boards.now * 32) × (length gs.now ≡ length boards.now * 32) × (i < length boards.now) }
     ensures { result ≡ board_meets n d w p m boards.now ff.now gf.now fs.now gs.now i }
 {
-    let k = boards.len();
-    let mut j: usize = 0;
-    while j < k {
+    for j in 0..boards.len() {
         let f = value_at(n, w, m, boards, ff, fs, i, j);
         let g = value_at(n, d, p, boards, gf, gs, j, i);
         if f != g {
             return false;
         }
-        j += 1;
     }
     true
 }
@@ -80,12 +77,10 @@ fn boards_meet(
     ensures { result ≡ boards_meet n d w p m boards.now ff.now gf.now fs.now gs.now }
 {
     let k = boards.len();
-    let mut i: usize = 0;
-    while i < k {
+    for i in 0..k {
         if !board_meets(n, d, w, p, m, boards, ff, gf, fs, gs, i) {
             return false;
         }
-        i += 1;
     }
     true
 }
@@ -132,12 +127,10 @@ pub fn stripes_meet(
     requires { (legal sizes ≡ true) × DifferentPoints sizes points.now × (length boards.now ≡ sizes.k) × (below sizes.n boards.now ≡ true) × (length starts.now ≡ sizes.k) × Placed sizes starts.now bytes.now stripes × (stripes ≤ 4096) × (ff.now ≡ factor_rows sizes points.now (sizes.d + sizes.r) boards.now) × (gf.now ≡ factor_rows sizes points.now sizes.d boards.now) × (length fs.old ≡ sizes.k * 32) × (length gs.old ≡ sizes.k * 32) }
     ensures { result ≡ alls (tabulate stripes (λ s. pairs_meet sizes points.now boards.now (held_at sizes starts.now bytes.now s))) }
 {
-    let mut s: usize = 0;
-    while s < stripes {
+    for s in 0..stripes {
         if !stripe_meets(sizes, points, boards, starts, bytes, s, ff, gf, fs, gs) {
             return false;
         }
-        s += 1;
     }
     true
 }

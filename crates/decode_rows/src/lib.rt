@@ -14,15 +14,13 @@ pub fn by_rows(count: usize, m: usize, a: &[u8], tables: &[u8], out: &mut [u8])
     requires { (count ≤ 32) × (m ≤ 32) × (count * m ≤ length a.now) × (m * 512 ≤ length tables.now) × (length out.old ≡ count * 32) }
     ensures { (rows : List ℕ) → m * 32 ≤ length rows → TabledRows m rows tables.now → out.new ≡ by_rows count m a.now rows }
 {
-    let mut i: usize = 0;
-    while i < count {
+    for i in 0..count {
         let from = i * m;
         let to = from + m;
         let at = i * 32;
         let end = at + 32;
         let row = column_sums::row_sum(tables, &a[from..to]);
         row_sums::put_row(row, &mut out[at..end]);
-        i += 1;
     }
 }
 
@@ -31,14 +29,12 @@ pub fn by_columns(count: usize, from: usize, m: usize, a: &[u8], tables: &[u8], 
     requires { (from + count ≤ 32) × (m ≤ 32) × (m * 32 ≤ length a.now) × (m * 512 ≤ length tables.now) × (length out.old ≡ count * 32) }
     ensures { (rows : List ℕ) → m * 32 ≤ length rows → TabledRows m rows tables.now → out.new ≡ by_columns count from m a.now rows }
 {
-    let mut i: usize = 0;
-    while i < count {
+    for i in 0..count {
         let j = from + i;
         let at = i * 32;
         let end = at + 32;
         let row = column_sums::column_sum(tables, a, j, m);
         row_sums::put_row(row, &mut out[at..end]);
-        i += 1;
     }
 }
 
@@ -47,12 +43,9 @@ pub fn gather(rows: &[u8], from: usize, i: usize, out: &mut [u8])
     requires { (from ≤ 32) × (i < 32) × (from * 32 + length out.old * 32 ≤ length rows.now) }
     ensures { out.new ≡ tabulate (length out.old) (λ j. cell rows.now (from + j) i) }
 {
-    let m = out.len();
-    let mut t: usize = 0;
-    while t < m {
+    for t in 0..out.len() {
         let at = (from + t) * 32 + i;
         out[t] = rows[at];
-        t += 1;
     }
 }
 
@@ -61,12 +54,10 @@ pub fn turned(count: usize, from: usize, m: usize, rows: &[u8], out: &mut [u8])
     requires { (count ≤ 32) × (from ≤ 32) × (m ≤ 32) × (from * 32 + m * 32 ≤ length rows.now) × (length out.old ≡ count * m) }
     ensures { out.new ≡ turned count from m rows.now }
 {
-    let mut i: usize = 0;
-    while i < count {
+    for i in 0..count {
         let at = i * m;
         let end = at + m;
         gather(rows, from, i, &mut out[at..end]);
-        i += 1;
     }
 }
 
@@ -76,11 +67,7 @@ pub fn copy(a: &[u8], out: &mut [u8])
     ensures { out.new ≡ take (length out.old) a.now }
 {
     let m = out.len();
-    let mut t: usize = 0;
-    while t < m {
-        out[t] = a[t];
-        t += 1;
-    }
+    out.copy_from_slice(&a[..m]);
 }
 
 // The first m bytes of each row.
@@ -88,13 +75,11 @@ pub fn parts(count: usize, m: usize, rows: &[u8], out: &mut [u8])
     requires { (count ≤ 32) × (m ≤ 32) × (count * 32 ≤ length rows.now) × (length out.old ≡ count * m) }
     ensures { out.new ≡ parts count 0 m rows.now }
 {
-    let mut i: usize = 0;
-    while i < count {
+    for i in 0..count {
         let from = i * 32;
         let to = from + 32;
         let at = i * m;
         let end = at + m;
         copy(&rows[from..to], &mut out[at..end]);
-        i += 1;
     }
 }

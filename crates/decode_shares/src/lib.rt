@@ -13,18 +13,15 @@ ghost use Rattle.line_checks.specs.Steps.{asked};
 ghost use Rattle.decode_stripe.specs.Steps.{Asked};
 ghost use Rattle.decode_setup.specs.Steps.{Made};
 
-use sizes::{Check, Refusal, Sizes};
+use sizes::{Refusal, Sizes};
 
 // Where shares of so many bytes start.
 pub fn starts(share: usize, out: &mut [usize])
     requires { (share ≤ 253952) × (length out.old ≤ 32) }
     ensures { out.new ≡ tabulate (length out.old) (λ t. t * share) }
 {
-    let n = out.len();
-    let mut t: usize = 0;
-    while t < n {
+    for t in 0..out.len() {
         out[t] = t * share;
-        t += 1;
     }
 }
 
@@ -38,7 +35,7 @@ pub fn check_agrees(
     boards: &[usize],
     held: &[u8],
     tables: &mut [u8],
-) -> Check
+) -> Result<(), Refusal>
     requires { Asked sizes points.now boards.now × (inverses.now ≡ tabulate 256 inverse) × (length points.now ≡ 32) × (stripes ≤ 4096) × (stripes ≡ stripesOf sizes total) × (length held.now ≡ sizes.k * (stripes * α sizes)) × (length tables.old ≡ 49152) }
     ensures { (result ≡ asked (Refusal.Disagree when not (given (read_file sizes points.now total boards.now held.now)))) × Made sizes points.now boards.now tables.new }
 {
@@ -57,9 +54,9 @@ pub fn check_agrees(
         held,
         tables,
     ) {
-        Check::Pass
+        Ok(())
     } else {
-        Check::Refuse(Refusal::Disagree)
+        Err(Refusal::Disagree)
     }
 }
 

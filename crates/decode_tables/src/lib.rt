@@ -20,10 +20,8 @@ fn fill_seeds(xs: &[u8], s: usize, out: &mut [u8])
     ensures { out.new ≡ seeds xs.now s }
 {
     let m = xs.len();
-    let mut t: usize = 0;
-    while t < m {
+    for t in 0..m {
         out[t] = table_seeds::seed(m, s, t, xs[t]);
-        t += 1;
     }
 }
 
@@ -43,12 +41,10 @@ pub fn seed_rows(inverses: &[u8], xs: &[u8], d: usize, rows: &mut [u8])
     requires { (inverses.now ≡ tabulate 256 inverse) × (length xs.now ≤ 32) × (d ≤ 32) × (length rows.old ≡ d * 32) }
     ensures { rows.new ≡ seed_rows d xs.now }
 {
-    let mut s: usize = 0;
-    while s < d {
+    for s in 0..d {
         let at = s * 32;
         let end = at + 32;
         seed_row(inverses, xs, s, &mut rows[at..end]);
-        s += 1;
     }
 }
 
@@ -57,14 +53,12 @@ pub fn fill_tables(count: usize, rows: &[u8], tables: &mut [u8])
     requires { (count ≤ 32) × (count * 32 ≤ length rows.now) × (length tables.old ≡ count * 512) }
     ensures { tables.new ≡ join count (λ s. multiples (piece 32 s rows.now)) }
 {
-    let mut s: usize = 0;
-    while s < count {
+    for s in 0..count {
         let from = s * 32;
         let to = from + 32;
         let at = s * 512;
         let end = at + 512;
         multiples::fill_multiples(&rows[from..to], &mut tables[at..end]);
-        s += 1;
     }
 }
 
@@ -73,13 +67,10 @@ pub fn top_rows(k: usize, m: usize, count: usize, rows: &[u8], out: &mut [u8])
     requires { (k + count ≤ 32) × (m ≤ 32) × (m * 32 ≤ length rows.now) × (length out.old ≡ count * 32) }
     ensures { out.new ≡ join count (λ i. fit 32 (tabulate m (λ s. cell rows.now s (k + i)))) }
 {
-    let mut i: usize = 0;
-    while i < count {
+    for i in 0..count {
         let at = i * 32;
         let end = at + 32;
-        let j = k + i;
-        lagrange_factors::column(rows, m, j, &mut out[at..end]);
-        i += 1;
+        lagrange_factors::column(rows, m, k + i, &mut out[at..end]);
     }
 }
 
@@ -116,15 +107,12 @@ fn factor_rows_in(
     requires { (inverses.now ≡ tabulate 256 inverse) × (length points.now ≡ 32) × (sizes.n ≤ 32) × (c ≤ sizes.n) × (length boards.now ≤ 32) × (below sizes.n boards.now ≡ true) × (length near.old ≡ c) × (length rows.old ≡ c * 32) × (length out.old ≡ length boards.now * ((sizes.n - c) * 32)) }
     ensures { out.new ≡ factor_rows sizes points.now c boards.now }
 {
-    let k = boards.len();
     let m = (sizes.n - c) * 32;
-    let mut t: usize = 0;
-    while t < k {
+    for t in 0..boards.len() {
         let at = t * m;
         let end = at + m;
         let b = boards[t];
         factors_in(sizes, points, inverses, c, b, near, rows, &mut out[at..end]);
-        t += 1;
     }
 }
 

@@ -41,8 +41,7 @@ fn stripes_agree(
 {
     let b = sizes.stripe_len();
     let share = sizes.share_len();
-    let mut s: usize = 0;
-    while s < stripes {
+    for s in 0..stripes {
         let part = part_from(len, s * b, b);
         let from = 2 * (s * share);
         if !text_stripes::stripe_agrees(
@@ -50,7 +49,6 @@ fn stripes_agree(
         ) {
             return false;
         }
-        s += 1;
     }
     true
 }
@@ -108,8 +106,7 @@ fn stripes_file(
     let b = sizes.stripe_len();
     let share = sizes.share_len();
     let len = out.len();
-    let mut s: usize = 0;
-    while s < stripes {
+    for s in 0..stripes {
         let at = s * b;
         let end = at + part_from(len, at, b);
         let from = 2 * (s * share);
@@ -125,7 +122,6 @@ fn stripes_file(
             held,
             &mut out[at..end],
         );
-        s += 1;
     }
 }
 

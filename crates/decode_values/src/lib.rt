@@ -24,16 +24,13 @@ pub fn rows_of(
     requires { (1 ≤ d) × (d ≤ 32) × (1 ≤ w) × (w ≤ 32) × (length starts.now ≤ 32) × All (λ p. p + at + (w + (d - 1)) ≤ length bytes.now) starts.now × (length fs.old ≡ length starts.now * 32) × (length gs.old ≡ length starts.now * 32) }
     ensures { (fs.new ≡ join (length starts.now) (λ t. f_row w (take (w + (d - 1)) (drop (get_or starts.now t 0 + at) bytes.now)))) × (gs.new ≡ join (length starts.now) (λ t. g_row w (take (w + (d - 1)) (drop (get_or starts.now t 0 + at) bytes.now)))) }
 {
-    let k = starts.len();
     let a = w + (d - 1);
-    let mut t: usize = 0;
-    while t < k {
+    for t in 0..starts.len() {
         let from = starts[t] + at;
         let to = from + a;
         let row = t * 32;
         let end = row + 32;
         kept_rows::board_rows(d, w, &bytes[from..to], &mut fs[row..end], &mut gs[row..end]);
-        t += 1;
     }
 }
 
@@ -51,12 +48,9 @@ fn board_values(
     requires { (n ≤ 32) × (c ≤ n) × (m ≤ 32) × (b < n) × (below n targets.now ≡ true) × ((n - c) * 32 ≤ length factors.now) × (length row.now ≡ 32) × (length out.old ≡ length targets.now) }
     ensures { out.new ≡ tabulate (length targets.now) (λ i. value_by c (offset n b (get_or targets.now i 0)) m factors.now row.now) }
 {
-    let q = targets.len();
-    let mut i: usize = 0;
-    while i < q {
+    for i in 0..targets.len() {
         let o = kept_rows::offset(n, b, targets[i]);
         out[i] = kept_rows::value(n, c, m, o, factors, row);
-        i += 1;
     }
 }
 
@@ -74,11 +68,9 @@ pub fn values(
     requires { (n ≤ 32) × (c ≤ n) × (m ≤ 32) × (length boards.now ≤ 32) × (below n boards.now ≡ true) × (length targets.now ≤ 32) × (below n targets.now ≡ true) × (length boards.now * ((n - c) * 32) ≤ length factors.now) × (length rows.now ≡ length boards.now * 32) × (length out.old ≡ length boards.now * length targets.now) }
     ensures { out.new ≡ values_of n c m boards.now targets.now factors.now rows.now }
 {
-    let k = boards.len();
     let q = targets.len();
     let all = (n - c) * 32;
-    let mut t: usize = 0;
-    while t < k {
+    for t in 0..boards.len() {
         let b = boards[t];
         let from = t * all;
         let row = t * 32;
@@ -95,7 +87,6 @@ pub fn values(
             &rows[row..row_end],
             &mut out[at..end],
         );
-        t += 1;
     }
 }
 
@@ -104,13 +95,10 @@ fn top(d: usize, m: usize, row: &[u8], va: &[u8], out: &mut [u8])
     requires { (d ≤ 32) × (m ≤ 32) × (length row.now ≡ 32) × (length out.old ≤ 32) × (length out.old * d + 32 ≤ length va.now) }
     ensures { out.new ≡ tabulate (length out.old) (λ t. sum m (λ s. mul (get_or row.now s 0) (get_or va.now (t * d + s) 0))) }
 {
-    let k = out.len();
-    let mut t: usize = 0;
-    while t < k {
+    for t in 0..out.len() {
         let from = t * d;
         let to = from + 32;
         out[t] = row_dots::dot(&row[0..m], &va[from..to]);
-        t += 1;
     }
 }
 
@@ -119,13 +107,11 @@ pub fn tops(count: usize, k: usize, d: usize, m: usize, rows: &[u8], va: &[u8], 
     requires { (count ≤ 32) × (k ≤ 32) × (d ≤ 32) × (m ≤ 32) × (count * 32 ≤ length rows.now) × (k * d + 32 ≤ length va.now) × (length out.old ≡ count * k) }
     ensures { out.new ≡ tops_of count k d m rows.now va.now }
 {
-    let mut i: usize = 0;
-    while i < count {
+    for i in 0..count {
         let from = i * 32;
         let to = from + 32;
         let at = i * k;
         let end = at + k;
         top(d, m, &rows[from..to], va, &mut out[at..end]);
-        i += 1;
     }
 }

@@ -14,7 +14,7 @@ use Rattle.lists.proofs.Pieces.{length-tabulate, tabulate-at, tabulate-ext, join
 use Rattle.lists.proofs.Put.{length-put, byte-before, byte-in, byte-after, part_end}
 use Rattle.gf256.specs.Field.{add}
 use Rattle.sizes.specs.Refusals.{first, store_order}
-use Rattle.sizes.specs.declared.Check.TheVariants.{Pass}
+use Rattle.std.specs.Prelude.{Ok}
 use Rattle.sizes.specs.declared.Sizes.{Sizes}
 use Rattle.sizes.specs.Sizing.{α, B, stripes}
 use Rattle.sizes.proofs.Legal.{Legal, legal-facts, stripes-least}
@@ -73,7 +73,7 @@ join-plus-below (suc n) f g h =
     ap (λ (l : List ℕ). plus (f 0) (g 0) ++ l) (join-plus-below n (λ i. f (suc i)) (λ i. g (suc i)) (λ i k. h (suc i) (omega arith)))
     ∙ append-plus (f 0) (g 0) (join n (λ i. f (suc i))) (join n (λ i. g (suc i))) (h 0 (omega arith))
 
-module _ (s : Record) (area₀ : List ℕ) (offset : ℕ) (bytes boards : List ℕ) (pass : first store_order (edit_lines s area₀ offset bytes boards) ≡ Pass) where
+module _ (s : Record) (area₀ : List ℕ) (offset : ℕ) (bytes boards : List ℕ) (pass : first store_order (edit_lines s area₀ offset bytes boards) ≡ Ok tt) where
   abbrev z : Sizes
   z = s.sizes
 

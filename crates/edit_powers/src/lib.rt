@@ -13,13 +13,11 @@ pub fn fill_rows(points: &[u8], rows: &mut [u8])
     ensures { rows.new ≡ powers_of points.now }
 {
     let mut power = [1u8; 32];
-    let mut j: usize = 0;
-    while j < 32 {
+    for j in 0..32 {
         let at = j * 32;
         let end = at + 32;
         row_dots::copy(&power, &mut rows[at..end]);
         row_products::scale_by(points, &mut power);
-        j += 1;
     }
 }
 
@@ -27,8 +25,7 @@ pub fn fill_rows(points: &[u8], rows: &mut [u8])
 pub fn add_times(c: u8, row: &[u8], acc: &mut [u8])
     ensures { acc.new ≡ add_scaled c row.now acc.old }
 {
-    if c == 0 {
-        return;
+    if c != 0 {
+        gf256_rows::add_scaled(c, row, acc);
     }
-    gf256_rows::add_scaled(c, row, acc);
 }

@@ -34,14 +34,11 @@ pub fn add_boards(
     requires { (legal sizes ≡ true) × (part ≤ 253952) × (at + α sizes ≤ part) × (sizes.n * 32 ≤ length values.now) × (below sizes.n boards.now ≡ true) × (different boards.now ≡ true) × (length area.old ≡ sizes.n * part) }
     ensures { area.new ≡ added (α sizes) part at (kept_by sizes values.now) boards.now area.old }
 {
-    let m = boards.len();
     let w = 2 * sizes.d + sizes.r - 1;
-    let mut a: usize = 0;
-    while a < m {
+    for a in 0..boards.len() {
         let i = boards[a];
         let from = i * part + at;
         let to = from + w;
         add_kept(sizes, i, values, &mut area[from..to]);
-        a += 1;
     }
 }

@@ -13,11 +13,8 @@ pub fn add_row(row: &[u8], out: &mut [u8])
     requires { length row.now ≡ length out.old }
     ensures { out.new ≡ plus out.old row.now }
 {
-    let n = out.len();
-    let mut j: usize = 0;
-    while j < n {
+    for j in 0..out.len() {
         out[j] = gf256_mul::add(out[j], row[j]);
-        j += 1;
     }
 }
 
@@ -40,10 +37,7 @@ pub fn change(from: usize, offset: usize, bytes: &[u8], old: &mut [u8])
     requires { (from ≤ 4063232) × (length old.old ≤ 992) }
     ensures { old.new ≡ tabulate (length old.old) (λ q. changed_at offset bytes.now (from + q) (get_or old.old q 0)) }
 {
-    let n = old.len();
-    let mut q: usize = 0;
-    while q < n {
+    for q in 0..old.len() {
         old[q] = changed(old[q], from + q, offset, bytes);
-        q += 1;
     }
 }

@@ -25,13 +25,10 @@ fn sums(values: &[u8], rows: &[u8], out: &mut [u8])
     ensures { out.new ≡ row_sums (length out.old) values.now rows.now }
 {
     row_dots::clear(out);
-    let m = values.len();
-    let mut t: usize = 0;
-    while t < m {
+    for t in 0..values.len() {
         let at = t * 32;
         let end = at + 32;
         edit_powers::add_times(values[t], &rows[at..end], out);
-        t += 1;
     }
 }
 
@@ -40,12 +37,10 @@ fn values_in(powers: &[u8], count: usize, rows: &[u8], out: &mut [u8])
     requires { (length powers.now ≡ 1024) × (count ≤ 32) × (length rows.now ≡ 1024) × (length out.old ≡ 1024) }
     ensures { out.new ≡ join count (λ t. row_sums 32 (piece 32 t rows.now) powers.now) ++ drop (count * 32) out.old }
 {
-    let mut t: usize = 0;
-    while t < count {
+    for t in 0..count {
         let at = t * 32;
         let end = at + 32;
         sums(&rows[at..end], powers, &mut out[at..end]);
-        t += 1;
     }
 }
 
@@ -64,13 +59,10 @@ fn lay_rows(sizes: Sizes, u: &[u8], out: &mut [u8])
     requires { (legal sizes ≡ true) × (length u.now ≡ B sizes) × (length out.old ≡ 1024) }
     ensures { out.new ≡ laid_rows sizes u.now ++ drop (sizes.d * 32) out.old }
 {
-    let d = sizes.d;
-    let mut i: usize = 0;
-    while i < d {
+    for i in 0..sizes.d {
         let at = i * 32;
         let end = at + 32;
         edit_grid::lay_row(sizes, u, i, &mut out[at..end]);
-        i += 1;
     }
 }
 

@@ -69,12 +69,10 @@ fn edit_stripes(
     edit_one(
         sizes, points, boards, starts, tables, part, first, offset, bytes, on, area,
     );
-    let mut s = first + 1;
-    while s < stop {
+    for s in first + 1..stop {
         edit_one(
             sizes, points, boards, starts, tables, part, s, offset, bytes, on, area,
         );
-        s += 1;
     }
 }
 

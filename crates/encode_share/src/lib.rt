@@ -41,13 +41,11 @@ fn share_stripes(
     ensures { (points : List ℕ) → length points ≡ 32 → Tabled (power_rows points (sizes.d + sizes.r)) tables.now → x ≡ point points i → out.new ≡ join count (λ s. kept sizes points (stripe sizes file.now s) i) ++ drop (count * α sizes) out.old }
 {
     let w = 2 * sizes.d + sizes.r - 1;
-    let mut s: usize = 0;
-    while s < count {
+    for s in 0..count {
         let at = s * w;
         let end = at + w;
         stripe_rows::stripe_rows(sizes, tables, file, s, rows);
         share_rows(sizes, tables, x, i, rows, &mut out[at..end]);
-        s += 1;
     }
 }
 

@@ -36,12 +36,10 @@ fn upper_values(tables: &[u8], k: usize, w: usize, u: &[u8], out: &mut [u8])
     requires { (k ≤ w) × (w ≤ 32) × (w * 512 ≤ length tables.now) × (k * k + k * (w - k) ≤ length u.now) × (k * 32 ≤ length out.old) }
     ensures { (points : List ℕ) → length points ≡ 32 → Tabled (power_rows points w) tables.now → out.new ≡ join k (λ i. evals (piece k i u.now ++ piece (w - k) i (drop (k * k) u.now)) points) ++ drop (k * 32) out.old }
 {
-    let mut i: usize = 0;
-    while i < k {
+    for i in 0..k {
         let at = i * 32;
         let end = at + 32;
         row_sums::put_row(upper_row(tables, k, w, u, i), &mut out[at..end]);
-        i += 1;
     }
 }
 
@@ -50,8 +48,7 @@ fn lower_values(tables: &[u8], k: usize, m: usize, u: &[u8], out: &mut [u8])
     requires { (k ≤ 32) × (m ≤ 32) × (k * 512 ≤ length tables.now) × (m * k ≤ length u.now) × (m * 32 ≤ length out.old) }
     ensures { (points : List ℕ) → length points ≡ 32 → Tabled (power_rows points k) tables.now → out.new ≡ join m (λ i. evals (piece k i u.now) points) ++ drop (m * 32) out.old }
 {
-    let mut i: usize = 0;
-    while i < m {
+    for i in 0..m {
         let from = i * k;
         let to = from + k;
         let at = i * 32;
@@ -60,7 +57,6 @@ fn lower_values(tables: &[u8], k: usize, m: usize, u: &[u8], out: &mut [u8])
             column_sums::row_sum(tables, &u[from..to]),
             &mut out[at..end],
         );
-        i += 1;
     }
 }
 
@@ -83,14 +79,12 @@ pub fn column_values(tables: &[u8], d: usize, n: usize, rows: &[u8], values: &mu
     requires { (d ≤ 32) × (n ≤ 32) × (d * 512 ≤ length tables.now) × (d * 32 ≤ length rows.now) × (n * 32 ≤ length values.old) }
     ensures { (points : List ℕ) → length points ≡ 32 → Tabled (power_rows points d) tables.now → values.new ≡ join n (λ l. evals (tabulate d (λ i. get_or rows.now (i * 32 + l) 0)) points) ++ drop (n * 32) values.old }
 {
-    let mut l: usize = 0;
-    while l < n {
+    for l in 0..n {
         let at = l * 32;
         let end = at + 32;
         row_sums::put_row(
             column_sums::column_sum(tables, rows, l, d),
             &mut values[at..end],
         );
-        l += 1;
     }
 }

@@ -11,10 +11,9 @@ use Rattle.lists.specs.Tests.{pick, different, given}
 use Rattle.lists.proofs.Pieces.{length-joined, length-tabulate}
 use Rattle.lists.proofs.Tests.{hold-alls}
 use Rattle.sizes.specs.declared.Sizes.{Sizes}
-use Rattle.sizes.specs.declared.Check.{Check}
-use Rattle.sizes.specs.declared.Check.TheVariants.{Pass, Refuse}
+use Rattle.sizes.specs.Refusals.{Check}
+use Rattle.std.specs.Prelude.{Ok, Err}
 use Rattle.sizes.specs.declared.Refusal.TheVariants.{Repeat, Short, Disagree}
-use Rattle.sizes.specs.declared.Answer.TheVariants.{Done, Refused}
 use Rattle.sizes.specs.Sizing.{legal, α, B, stripes}
 use Rattle.mbcr.specs.Share.{pointed}
 use Rattle.mbcr.specs.Read.{decoded_file, read_file}
@@ -46,7 +45,7 @@ module _ (text : List ℕ) (z : Sizes) (xs : List ℕ) (L : ℕ) (boards places 
 
   -- the lines that may hold
   abbrev asks : Bool → Bool → Bool → Check
-  asks d s g = pick (not d) (Refuse Repeat) (pick s (Refuse Short) (pick (not g) (Refuse Disagree) Pass))
+  asks d s g = pick (not d) (Err Repeat) (pick s (Err Short) (pick (not g) (Err Disagree) (Ok tt)))
 
   is-checked : checked z xs L boards shares output ≡ asks (different boards) (ltb (length output) L) (given (read_file z xs L boards shares))
   unfolding file_lines
@@ -59,7 +58,7 @@ module _ (text : List ℕ) (z : Sizes) (xs : List ℕ) (L : ℕ) (boards places 
         hold-alls (eqb (length shares) (z.k * (stripes z L * α z)) ∷ []) (eq-eqb _ _ long, tt),
       ) refl
 
-  pub refuses-repeat : different boards ≡ false → outcome (Refused Repeat) output ≡ file_told text z xs L boards places output
+  pub refuses-repeat : different boards ≡ false → outcome (Err Repeat) output ≡ file_told text z xs L boards places output
   refuses-repeat d =
       file-refuses z xs L boards shares output (is-checked ∙ ap (λ (b : Bool). asks b (ltb (length output) L) (given (read_file z xs L boards shares))) d)
 
@@ -67,7 +66,7 @@ module _ (text : List ℕ) (z : Sizes) (xs : List ℕ) (L : ℕ) (boards places 
     past-repeat : checked z xs L boards shares output ≡ asks true (ltb (length output) L) (given (read_file z xs L boards shares))
     past-repeat = is-checked ∙ ap (λ (b : Bool). asks b (ltb (length output) L) (given (read_file z xs L boards shares))) d
 
-    pub refuses-short : length output < L → outcome (Refused Short) output ≡ file_told text z xs L boards places output
+    pub refuses-short : length output < L → outcome (Err Short) output ≡ file_told text z xs L boards places output
     refuses-short l =
         file-refuses z xs L boards shares output (past-repeat ∙ ap (λ (b : Bool). asks true b (given (read_file z xs L boards shares))) (lt-ltb _ _ l))
 
@@ -75,9 +74,9 @@ module _ (text : List ℕ) (z : Sizes) (xs : List ℕ) (L : ℕ) (boards places 
       past-short : checked z xs L boards shares output ≡ asks true false (given (read_file z xs L boards shares))
       past-short = past-repeat ∙ ap (λ (b : Bool). asks true b (given (read_file z xs L boards shares))) (le-ltb _ _ l)
 
-      pub refuses-disagree : given (read_file z xs L boards shares) ≡ false → outcome (Refused Disagree) output ≡ file_told text z xs L boards places output
+      pub refuses-disagree : given (read_file z xs L boards shares) ≡ false → outcome (Err Disagree) output ≡ file_told text z xs L boards places output
       refuses-disagree g = file-refuses z xs L boards shares output (past-short ∙ ap (asks true false) g)
 
       pub works : given (read_file z xs L boards shares) ≡ true → (written : List ℕ) → written ≡ decoded_file z xs L boards shares ++ drop L output
-          → outcome (Done L) written ≡ file_told text z xs L boards places output
+          → outcome (Ok L) written ≡ file_told text z xs L boards places output
       works g written e = file-works z xs L boards shares output written (past-short ∙ ap (asks true false) g) e

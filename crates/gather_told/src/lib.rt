@@ -7,7 +7,7 @@ ghost use Rattle.std.specs.Prelude.{◌≡◌};
 ghost use Rattle.board_lines.specs.Outcomes.{outcome};
 ghost use Rattle.gather_told.specs.Steps.{Ready, file_told};
 
-use sizes::{Answer, Refusal, Sizes};
+use sizes::{Refusal, Sizes};
 
 // The file from k shares, of which the pairs begin at these places of the text: REPEAT, SHORT, DISAGREE, or its bytes.
 pub fn gather_told(
@@ -18,15 +18,15 @@ pub fn gather_told(
     boards: &[usize],
     places: &[usize],
     out: &mut [u8],
-) -> Answer
+) -> Result<usize, Refusal>
     requires { Ready text.now sizes points.now len boards.now places.now }
     ensures { outcome result out.new ≡ file_told text.now sizes points.now len boards.now places.now out.old }
 {
     if !line_tests::different(boards) {
-        return Answer::Refused(Refusal::Repeat);
+        return Err(Refusal::Repeat);
     }
     if out.len() < len {
-        return Answer::Refused(Refusal::Short);
+        return Err(Refusal::Short);
     }
     let stripes = board_lines::stripe_count(sizes, len);
     let mut inverses = [0u8; 256];
@@ -34,10 +34,10 @@ pub fn gather_told(
     let mut tables = [0u8; 49152];
     decode_setup::fill(sizes, points, &inverses, boards, &mut tables);
     if !decode_texts::agrees(text, sizes, points, len, stripes, boards, places, &tables) {
-        return Answer::Refused(Refusal::Disagree);
+        return Err(Refusal::Disagree);
     }
     decode_texts::write_file(
         text, sizes, points, len, stripes, boards, places, &tables, out,
     );
-    Answer::Done(len)
+    Ok(len)
 }

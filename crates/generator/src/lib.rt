@@ -32,12 +32,10 @@ pub fn fill(seed: u32, out: &mut [u8]) -> u32
     ensures { (out.new ≡ emitted (length out.old) seed) × (result ≡ after (length out.old) seed) }
 {
     let mut state = seed;
-    let mut i = 0;
-    while i < out.len() {
+    for i in 0..out.len() {
         let next = step(state);
         out[i] = top_byte(next);
         state = next;
-        i += 1;
     }
     state
 }

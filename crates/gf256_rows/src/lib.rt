@@ -3,17 +3,10 @@
 
 #![tactic(auto)]
 
-ghost use Rattle.std.specs.Prelude.{◌≡◌, ◌<◌, ◌≤◌};
+ghost use Rattle.std.specs.Prelude.{◌≡◌};
 ghost use Rattle.gf256.specs.Field.{inverse, add_scaled};
 
 use gf256_mul::{mul, multiples_of, times};
-
-// The lesser of two lengths.
-fn shorter(a: usize, b: usize) -> usize
-    ensures { (result ≤ a) × (result ≤ b) × (result < a → result ≡ b) }
-{
-    if a < b { a } else { b }
-}
 
 // The byte whose product with a is 1; 0 for 0, which has none.
 pub fn inverse(a: u8) -> u8
@@ -37,10 +30,8 @@ pub fn add_scaled(c: u8, row: &[u8], acc: &mut [u8])
     ensures { acc.new ≡ add_scaled c row.now acc.old }
 {
     let m = multiples_of(c);
-    let n = shorter(row.len(), acc.len());
-    let mut j = 0;
-    while j < n {
-        acc[j] = acc[j] ^ times(m, row[j]);
-        j += 1;
+    let n = row.len().min(acc.len());
+    for j in 0..n {
+        acc[j] ^= times(m, row[j]);
     }
 }

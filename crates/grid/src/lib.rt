@@ -1,7 +1,7 @@
 // Bytes cleared; and a law of loops that put pieces one behind another.
 // Assumes nothing.
 
-#![tactic(auto)]
+#![tactic(auto, using(crate::proofs::Cleared::zeros))]
 
 ghost use Rattle.std.specs.Prelude.{◌≡◌, length};
 ghost use Rattle.lists.specs.Lists.{tabulate};
@@ -10,9 +10,5 @@ ghost use Rattle.lists.specs.Lists.{tabulate};
 pub fn clear(out: &mut [u8])
     ensures { out.new ≡ tabulate (length out.old) (λ _. 0) }
 {
-    let mut t: usize = 0;
-    while t < out.len() {
-        out[t] = 0;
-        t += 1;
-    }
+    out.fill(0);
 }

@@ -13,11 +13,8 @@ pub fn horner_row(x: u8, row: &[u8], acc: &mut [u8])
     ensures { acc.new ≡ plus row.now (scale x acc.old) }
 {
     let m = gf256_mul::multiples_of(x);
-    let n = acc.len();
-    let mut j: usize = 0;
-    while j < n {
+    for j in 0..acc.len() {
         acc[j] = row[j] ^ gf256_mul::times(m, acc[j]);
-        j += 1;
     }
 }
 
@@ -26,9 +23,7 @@ pub fn rows_at(rows: &[u8], x: u8, d: usize, acc: &mut [u8])
     requires { (d ≤ 32) × (d * 32 ≤ length rows.now) × (acc.old ≡ tabulate 32 (λ _. 0)) }
     ensures { acc.new ≡ tabulate 32 (λ m. eval (tabulate d (λ i. get_or rows.now (i * 32 + m) 0)) x) }
 {
-    let mut i = d;
-    while i > 0 {
-        i -= 1;
+    for i in (0..d).rev() {
         let at = i * 32;
         let end = at + 32;
         horner_row(x, &rows[at..end], acc);

@@ -20,9 +20,7 @@ pub fn eval(p: &[u8], x: u8) -> u8
     ensures { result ≡ eval p.now x }
 {
     let mut acc: u8 = 0;
-    let mut i = p.len();
-    while i > 0 {
-        i -= 1;
+    for i in (0..p.len()).rev() {
         let t = product(x, acc);
         acc = gf256_mul::add(p[i], t);
     }
@@ -33,13 +31,9 @@ pub fn eval(p: &[u8], x: u8) -> u8
 pub fn step(a: u8, q: &mut [u8])
     ensures { q.new ≡ stepped a q.old }
 {
-    let mut j: usize = 0;
-    while j + 1 < q.len() {
-        let c = q[j + 1];
-        let t = product(a, c);
-        let v = q[j];
-        q[j] = gf256_mul::add(v, t);
-        j += 1;
+    for j in 1..q.len() {
+        let t = product(a, q[j]);
+        q[j - 1] = gf256_mul::add(q[j - 1], t);
     }
 }
 
@@ -48,10 +42,8 @@ pub fn fill_inverses(table: &mut [u8])
     requires { length table.old ≡ 256 }
     ensures { table.new ≡ tabulate 256 inverse }
 {
-    let mut t: usize = 0;
-    while t < 256 {
+    for t in 0..256 {
         table[t] = gf256_rows::inverse(t as u8);
-        t += 1;
     }
 }
 
@@ -60,15 +52,13 @@ pub fn slopes(inverses: &[u8], a: u8, v: u8, ys: &[u8], ws: &mut [u8])
     requires { (inverses.now ≡ tabulate 256 inverse) × (length ys.now ≡ length ws.old) }
     ensures { ws.new ≡ slopes a v ys.now ws.old }
 {
-    let mut j: usize = 0;
-    while j < ws.len() {
+    for j in 0..ws.len() {
         let w = ws[j];
         let y = ys[j];
         let d = gf256_mul::add(y, a);
         let n = inverses[d as usize];
         let u = gf256_mul::add(w, v);
         ws[j] = product(u, n);
-        j += 1;
     }
 }
 

@@ -23,11 +23,9 @@ pub fn fill_inverses(table: &mut [u8])
     row_dots::clear(table);
     let mut x: u8 = 1;
     let mut y: u8 = 1;
-    let mut e: usize = 0;
-    while e < 255 {
+    for _ in 0..255usize {
         table[x as usize] = y;
         x = gf256_mul::double(x);
         y = half(y);
-        e += 1;
     }
 }

@@ -23,13 +23,10 @@ fn turned(row: &[u8], n: usize, i: usize, out: &mut [u8])
     requires { (i < n) × (n ≤ 32) × (n ≤ length row.now) }
     ensures { out.new ≡ around n (λ b. get_or row.now b 0) i (length out.old) }
 {
-    let m = out.len();
     let mut b = i;
-    let mut t: usize = 0;
-    while t < m {
-        out[t] = row[b];
+    for byte in out {
+        *byte = row[b];
         b = next(b, n);
-        t += 1;
     }
 }
 
@@ -38,14 +35,11 @@ fn turned_column(rows: &[u8], n: usize, i: usize, out: &mut [u8])
     requires { (i < n) × (n ≤ 32) × (n * 32 ≤ length rows.now) }
     ensures { out.new ≡ around n (λ b. get_or rows.now (b * 32 + i) 0) i (length out.old) }
 {
-    let m = out.len();
     let mut b = i;
-    let mut t: usize = 0;
-    while t < m {
+    for byte in out {
         let at = b * 32 + i;
-        out[t] = rows[at];
+        *byte = rows[at];
         b = next(b, n);
-        t += 1;
     }
 }
 

@@ -4,7 +4,7 @@ use mathlib.Core.Path.{◌≡◌, refl, sym, ap, ap₂, ◌∙◌}
 use mathlib.Core.Bool.{true}
 use mathlib.Core.List.{List, [], ◌∷◌, ◌++◌}
 use Prim.Native.Nat.{ℕ, zero, suc, ◌+◌, ◌*◌, ◌%◌, ◌<◌, ◌≤◌}
-use native.Mathlib.Nat.{add_assoc, mod-lt, mod-eq_of_lt, mod_self, mod-add-mod}
+use native.Mathlib.Nat.{add_assoc, mod-lt, mod-add-mod}
 use native.Mathlib.Omega.{arith}
 use lib.ListN.{length, get_or, drop, get_or-eq_default}
 use lib.Seq.{get_or-drop}
@@ -26,12 +26,6 @@ use Rattle.lagrange_rows.proofs.Weights.{lagrange-at}
 use Rattle.lagrange_factors.specs.Steps.{factors_for, factors_at, dot_of}
 
 -- ---- boards modulo n
-
-pub next-on : (b n : ℕ) → b + 1 < n → b + 1 ≡ (b + 1) % n
-next-on b n h = sym (mod-eq_of_lt h)
-
-pub next-none : (b n : ℕ) → b < n → n ≤ b + 1 → 0 ≡ (b + 1) % n
-next-none b n h l = let e : b + 1 ≡ n = omega arith in sym (ap (λ (m : ℕ). m % n) e ∙ mod_self n)
 
 -- a turn of a loop over the boards from b on
 pub board-turn : (b t n a a' : ℕ) → a ≡ (b + t) % n → a' ≡ (a + 1) % n → a' ≡ (b + (t + 1)) % n

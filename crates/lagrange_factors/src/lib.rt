@@ -22,13 +22,10 @@ pub fn boards_from(n: usize, b: usize, out: &mut [usize])
     requires { (b < n) × (n ≤ 32) }
     ensures { out.new ≡ tabulate (length out.old) (λ t. (b + t) % n) }
 {
-    let m = out.len();
     let mut a = b;
-    let mut t: usize = 0;
-    while t < m {
+    for t in 0..out.len() {
         out[t] = a;
         a = next(a, n);
-        t += 1;
     }
 }
 
@@ -38,10 +35,8 @@ pub fn column(rows: &[u8], m: usize, i: usize, out: &mut [u8])
     ensures { out.new ≡ fit (length out.old) (tabulate m (λ t. get_or rows.now (t * 32 + i) 0)) }
 {
     row_dots::clear(out);
-    let mut t: usize = 0;
-    while t < m {
+    for t in 0..m {
         out[t] = rows[t * 32 + i];
-        t += 1;
     }
 }
 

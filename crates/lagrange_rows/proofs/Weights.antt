@@ -16,7 +16,6 @@ use Rattle.gf256.specs.Field.{add, mul, inverse}
 use Rattle.gf256.proofs.Field.{one-mul, mul-lt}
 use Rattle.gf256.proofs.Ring.{ring}
 use Rattle.mbcr.specs.Share.{point, points}
-use Rattle.mbcr.proofs.Points.{length-points}
 use Rattle.lagrange.specs.Steps.{differences, others, weight}
 use Rattle.row_dots.proofs.Rows.{back-loop}
 use Rattle.lagrange_rows.specs.Steps.{before_row, lagrange_row, lagrange_rows}
@@ -208,9 +207,6 @@ module _ (pts boards xs : List ℕ) where
   pub left_end : (rows : List ℕ) (t : ℕ) → t ≡ 0 → rows ≡ left pts boards xs t → rows ≡ lagrange_rows pts boards
   unfolding lagrange_rows
   left_end rows t z e = e ∙ ap (left pts boards xs) z
-
-pub befores-made : (pts boards xs rows : List ℕ) → xs ≡ points pts boards → rows ≡ join (length xs) (before_row pts xs) → rows ≡ befores pts boards xs
-befores-made pts boards xs rows e h = h ∙ ap (λ (n : ℕ). join n (before_row pts xs)) (ap length e ∙ length-points pts boards)
 
 -- ---- the bytes of the rows
 

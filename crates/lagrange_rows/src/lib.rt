@@ -15,12 +15,8 @@ pub fn points_of(points: &[u8], boards: &[usize], out: &mut [u8])
     requires { (below (length points.now) boards.now ≡ true) × (length out.old ≡ length boards.now) }
     ensures { out.new ≡ points_of points.now boards.now }
 {
-    let m = boards.len();
-    let mut t: usize = 0;
-    while t < m {
-        let b = boards[t];
-        out[t] = points[b];
-        t += 1;
+    for t in 0..boards.len() {
+        out[t] = points[boards[t]];
     }
 }
 
@@ -29,15 +25,12 @@ fn products_before(points: &[u8], xs: &[u8], rows: &mut [u8])
     requires { (length points.now ≡ 32) × (length xs.now ≤ 32) × (length rows.old ≡ length xs.now * 32) }
     ensures { rows.new ≡ join (length xs.now) (before_row points.now xs.now) }
 {
-    let m = xs.len();
     let mut row = [1u8; 32];
-    let mut t: usize = 0;
-    while t < m {
+    for t in 0..xs.len() {
         let at = t * 32;
         let end = at + 32;
         row_dots::copy(&row, &mut rows[at..end]);
         row_dots::scale_by_difference(xs[t], points, &mut row);
-        t += 1;
     }
 }
 
@@ -57,9 +50,7 @@ fn products_after(points: &[u8], boards: &[usize], xs: &[u8], inverses: &[u8], r
     ensures { rows.new ≡ lagrange_rows points.now boards.now }
 {
     let mut row = [1u8; 32];
-    let mut t = xs.len();
-    while 0 < t {
-        t -= 1;
+    for t in (0..xs.len()).rev() {
         let at = t * 32;
         let end = at + 32;
         divide(&row, boards[t], inverses, &mut rows[at..end]);

@@ -13,12 +13,10 @@ use Rattle.lists.specs.Tests.{pick, among, alls, given}
 use Rattle.lists.proofs.Tests.{true-false, not-no}
 use Rattle.lists.specs.Lists.{put}
 use Rattle.lists.proofs.Boards.{among-append-left, among-append-none, among-without}
-use Rattle.sizes.specs.declared.Check.{Check}
-use Rattle.sizes.specs.declared.Check.TheVariants.{Pass, Refuse}
-use Rattle.sizes.specs.declared.Answer.TheVariants.{Done, Refused}
+use Rattle.std.specs.Prelude.{Ok, Err}
 use Rattle.sizes.specs.declared.Refusal.TheVariants.{Area, Empty, Idle, Busy}
 use Rattle.sizes.specs.Sizing.{α, stripes}
-use Rattle.sizes.specs.Refusals.{said, ◌when◌, first, store_order}
+use Rattle.sizes.specs.Refusals.{said, ◌when◌, first, store_order, Check}
 use Rattle.sizes.proofs.Orders.{clear-off}
 use Rattle.sizes.proofs.Laws.{number-low}
 use Rattle.board_spec.specs.Calls.{file_of}
@@ -34,29 +32,29 @@ use Rattle.beside_spec.proofs.HandedLaws.{no-point}
 -- a call is accepted, and then the entry is the accepted one, or it is refused
 module _ (b : Book) (output : List ℕ) (done : Entry) where
   abbrev by : Check → Entry
-  by t = settle t (λ x. replied (said (Refused x)) output b) done
+  by t = settle t (λ x. replied (said (Err x)) output b) done
 
   by-done : (t : Check) → (by t).reply.answer.refusal ≡ 0 → by t ≡ done
-  by-done Pass e = refl
-  by-done (Refuse x) e = absurd (omega (arith, number-low x))
+  by-done (Ok tt) e = refl
+  by-done (Err x) e = absurd (omega (arith, number-low x))
 
   by-refused : (t : Check) → done.reply.answer.refusal ≡ 0 → ((by t).reply.answer.refusal ≡ 0 → ⊥) → ((by t).book ≡ b) × ((by t).reply.output ≡ output)
-  by-refused Pass e h = absurd (h e)
-  by-refused (Refuse x) e h = (refl, refl)
+  by-refused (Ok tt) e h = absurd (h e)
+  by-refused (Err x) e h = (refl, refl)
 
   by-stay : (t : Check) → (done.book.sizes ≡ b.sizes) × (done.book.capacity ≡ b.capacity) × (done.book.area_length ≡ b.area_length)
       → ((by t).book.sizes ≡ b.sizes) × ((by t).book.capacity ≡ b.capacity) × ((by t).book.area_length ≡ b.area_length)
-  by-stay Pass h = h
-  by-stay (Refuse x) h = (refl, refl, refl)
+  by-stay (Ok tt) h = h
+  by-stay (Err x) h = (refl, refl, refl)
 
   by-points : (t : Check) (call : Call) → done.book.points ≡ set_points b.points (new_point call done.reply.answer)
       → (by t).book.points ≡ set_points b.points (new_point call (by t).reply.answer)
-  by-points Pass call h = h
-  by-points (Refuse x) call h = ap (set_points b.points) (sym (no-point call x))
+  by-points (Ok tt) call h = h
+  by-points (Err x) call h = ap (set_points b.points) (sym (no-point call x))
 
   by-same : (t : Check) → done.book ≡ b → (by t).book ≡ b
-  by-same Pass e = e
-  by-same (Refuse x) e = refl
+  by-same (Ok tt) e = e
+  by-same (Err x) e = refl
 
 accepts : (b : Book) (call : Call) → (accept b call).reply.answer.refusal ≡ 0
 unfolding accept
@@ -68,7 +66,7 @@ accepts b (edit offset bytes boards) = refl
 accepts b (start fresh helpers stand_ins) = refl
 accepts b (step allowance packets) = go b.repairing
   where
-    go : (o : Option Repairing) → (during o (replied (said (Done 0)) [] b) (λ r. pick (leb r.left allowance) (ended b r) (goes_on b r allowance))).reply.answer.refusal ≡ 0
+    go : (o : Option Repairing) → (during o (replied (said (Ok 0)) [] b) (λ r. pick (leb r.left allowance) (ended b r) (goes_on b r allowance))).reply.answer.refusal ≡ 0
     go none = refl
     go (some r) = by (leb r.left allowance)
       where
@@ -90,7 +88,7 @@ done-stay b (start fresh helpers stand_ins) = (refl, refl, refl)
 done-stay b (step allowance packets) = go b.repairing
   where
     go : (o : Option Repairing)
-        → let e = during o (replied (said (Done 0)) [] b) (λ r. pick (leb r.left allowance) (ended b r) (goes_on b r allowance)) in
+        → let e = during o (replied (said (Ok 0)) [] b) (λ r. pick (leb r.left allowance) (ended b r) (goes_on b r allowance)) in
         (e.book.sizes ≡ b.sizes) × (e.book.capacity ≡ b.capacity) × (e.book.area_length ≡ b.area_length)
     go none = (refl, refl, refl)
     go (some r) = by (leb r.left allowance)
@@ -113,7 +111,7 @@ done-points b (start fresh helpers stand_ins) = refl
 done-points b (step allowance packets) = go b.repairing
   where
     go : (o : Option Repairing)
-        → (during o (replied (said (Done 0)) [] b) (λ r. pick (leb r.left allowance) (ended b r) (goes_on b r allowance))).book.points ≡ b.points
+        → (during o (replied (said (Ok 0)) [] b) (λ r. pick (leb r.left allowance) (ended b r) (goes_on b r allowance))).book.points ≡ b.points
     go none = refl
     go (some r) = by (leb r.left allowance)
       where
@@ -194,13 +192,13 @@ none-there : (o : Option Repairing) → given o ≡ false → o ≡ none
 none-there none e = refl
 none-there (some r) e = absurd (true-false refl e)
 
-taken : (b : Book) (call : Call) → Accepted b call → first store_order (book_lines b call) ≡ Pass
+taken : (b : Book) (call : Call) → Accepted b call → first store_order (book_lines b call) ≡ Ok tt
 unfolding enter
 taken b call e = go (first store_order (book_lines b call)) e
   where
-    go : (t : Check) → (settle t (λ x. replied (said (Refused x)) (output_of call) b) (accept b call)).reply.answer.refusal ≡ 0 → t ≡ Pass
-    go Pass h = refl
-    go (Refuse x) h = absurd (omega (arith, number-low x))
+    go : (t : Check) → (settle t (λ x. replied (said (Err x)) (output_of call) b) (accept b call)).reply.answer.refusal ≡ 0 → t ≡ Ok tt
+    go (Ok tt) h = refl
+    go (Err x) h = absurd (omega (arith, number-low x))
 
 starts : (b : Book) (fresh helpers stand_ins : List ℕ) → Accepted b (start fresh helpers stand_ins)
     → (b.repairing ≡ none)
@@ -232,7 +230,7 @@ module _ (b : Book) (r : Repairing) (allowance : ℕ) (packets : List ℕ) (q : 
   unfolding accept
   stepped t h =
       is-done b (step allowance packets) e
-      ∙ ap (λ (o : Option Repairing). during o (replied (said (Done 0)) [] b) (λ r. pick (leb r.left allowance) (ended b r) (goes_on b r allowance))) q
+      ∙ ap (λ (o : Option Repairing). during o (replied (said (Ok 0)) [] b) (λ r. pick (leb r.left allowance) (ended b r) (goes_on b r allowance))) q
       ∙ ap (λ (x : Bool). pick x (ended b r) (goes_on b r allowance)) h
 
   steps_on : allowance < r.left
@@ -272,8 +270,8 @@ by_length b allowance packets packets' e =
     ∷ []))
     ∷ Empty when not (given b.file)
     ∷ Idle when not (given b.repairing)
-    ∷ [])) (λ x. replied (said (Refused x)) [] b)
-    (during b.repairing (replied (said (Done 0)) [] b) (λ r. pick (leb r.left allowance) (ended b r) (goes_on b r allowance)))) e
+    ∷ [])) (λ x. replied (said (Err x)) [] b)
+    (during b.repairing (replied (said (Ok 0)) [] b) (λ r. pick (leb r.left allowance) (ended b r) (goes_on b r allowance)))) e
 
 pub ledger-laws : LedgerLaws
 ledger-laws = record {

@@ -15,11 +15,9 @@ use Rattle.lists.specs.Tests.{given, among, alls, pick}
 use Rattle.lists.proofs.Alls.{all-imp}
 use Rattle.lists.proofs.Boards.{all_among, among-all, all_without, among-without}
 use Rattle.lists.proofs.Tests.{true-false, hold-alls, every-all, all-every}
-use Rattle.sizes.specs.Refusals.{said, applies_in, first, store_order}
+use Rattle.sizes.specs.Refusals.{said, applies_in, first, store_order, Check}
 use Rattle.sizes.specs.Sizing.{max_boards, B}
-use Rattle.sizes.specs.declared.Answer.TheVariants.{Refused}
-use Rattle.sizes.specs.declared.Check.{Check}
-use Rattle.sizes.specs.declared.Check.TheVariants.{Pass, Refuse}
+use Rattle.std.specs.Prelude.{Ok, Err}
 use Rattle.sizes.specs.declared.Refusal.{Refusal}
 use Rattle.sizes.specs.declared.Refusal.TheVariants.{Area, Count, Node, Repeat, Empty, Disagree}
 use Rattle.sizes.proofs.Legal.{legal-facts}
@@ -57,7 +55,7 @@ pub record Inv (b : Book) (area : List ℕ) : Type 0 where
 
 -- what holds of a repair that runs by the book: its lists pass, packets are left, and those carried lie as the whole repair's
 pub record Going (b : Book) (r : Repairing) (area packets : List ℕ) : Type 0 where
-  pub pass : first store_order (repair_lines (book_record b) (length area) r.fresh r.helpers r.stand_ins) ≡ Pass
+  pub pass : first store_order (repair_lines (book_record b) (length area) r.fresh r.helpers r.stand_ins) ≡ Ok tt
   pub some_left : 1 ≤ r.left
   pub within : r.left ≤ packet_count b.sizes (length r.fresh)
   pub lies : Begins packets (contents (take (carried_by b r) (repair_packets (book_record b) area r.fresh r.helpers r.stand_ins)))
@@ -97,12 +95,12 @@ altered b old new v a =
 
 -- two outcomes picked by one check
 pub good-both : (keep : Outcome → List ℕ) (c1 c2 : Check) (rs : Refusal → Outcome) (gs : Outcome) (re : Refusal → Entry) (ge : Entry) → c1 ≡ c2
-    → ((x : Refusal) → Good keep (rs x) (re x)) → (c1 ≡ Pass → Good keep gs ge) → Good keep (settle c1 rs gs) (settle c2 re ge)
+    → ((x : Refusal) → Good keep (rs x) (re x)) → (c1 ≡ Ok tt → Good keep gs ge) → Good keep (settle c1 rs gs) (settle c2 re ge)
 good-both keep c1 c2 rs gs re ge e r g = subst (λ (c : Check). Good keep (settle c1 rs gs) (settle c re ge)) e (go c1 g)
   where
-    go : (c : Check) → (c ≡ Pass → Good keep gs ge) → Good keep (settle c rs gs) (settle c re ge)
-    go Pass k = k refl
-    go (Refuse x) k = r x
+    go : (c : Check) → (c ≡ Ok tt → Good keep gs ge) → Good keep (settle c rs gs) (settle c re ge)
+    go (Ok tt) k = k refl
+    go (Err x) k = r x
 
 -- with other points, another file and other boards in service a book tells a sound record, where the points are allowed, the file fits, the boards are below n,
 -- and none is in service without a file
@@ -236,9 +234,9 @@ module _ (laws : AllLaws) (b : Book) (area : List ℕ) (v : Inv b area) (packets
 
   -- a refusal leaves all as it was
   pub refusal-good : (keep : Outcome → List ℕ) (output lent : List ℕ) (x : Refusal)
-      → keep (record { answer = said (Refused x); handed = book_record b; running = p; area = area; output = output; packets = lent }) ≡ packets
-      → Good keep (record { answer = said (Refused x); handed = book_record b; running = p; area = area; output = output; packets = lent })
-      (replied (said (Refused x)) output b)
+      → keep (record { answer = said (Err x); handed = book_record b; running = p; area = area; output = output; packets = lent }) ≡ packets
+      → Good keep (record { answer = said (Err x); handed = book_record b; running = p; area = area; output = output; packets = lent })
+      (replied (said (Err x)) output b)
   refusal-good keep output lent x e = record { alike = refl; same-record = refl; same-running = tells; inv = v; runs = subst (Runs b b.repairing area) (sym e) g }
 
   -- a call that is BUSY while a repair runs, and was not: none runs
@@ -307,7 +305,7 @@ module _ (laws : AllLaws) (b : Book) (area : List ℕ) (v : Inv b area) (packets
             absurd (true-false (subst (λ (x : ℕ). among (r.fresh ++ (r.helpers ++ r.stand_ins)) x ≡ true) (sym (eqb-true board i q))
             (among-append-right r.fresh (r.helpers ++ r.stand_ins) i e)) out)
 
-    still-passes : first store_order (repair_lines (book_record less) (length area) r.fresh r.helpers r.stand_ins) ≡ Pass
+    still-passes : first store_order (repair_lines (book_record less) (length area) r.fresh r.helpers r.stand_ins) ≡ Ok tt
     unfolding repair_lines list_lines
     still-passes =
         let off = clear-off (repair_lines (book_record b) (length area) r.fresh r.helpers r.stand_ins) store_order k.pass in

@@ -15,7 +15,7 @@ use Rattle.lists.specs.Lists.{All}
 use Rattle.lists.specs.Tests.{pick}
 use Rattle.lists.proofs.Alls.{all-imp, all_left, all_right}
 use Rattle.lists.proofs.Tests.{true-false, every-all, alls-hold, not-no}
-use Rattle.sizes.specs.declared.Answer.TheVariants.{Done}
+use Rattle.std.specs.Prelude.{Ok}
 use Rattle.sizes.specs.declared.Refusal.{Refusal}
 use Rattle.sizes.specs.declared.Refusal.TheVariants.{Area, Idle}
 use Rattle.sizes.specs.Refusals.{said, number, first, store_order}
@@ -156,7 +156,7 @@ module _ (s : Record) (p : Running) (area lent : List ℕ) (allowance : ℕ) whe
   step_by fresh helpers stand_ins left =
       pick (leb left allowance)
       (record {
-        answer = said (Done left);
+        answer = said (Ok left);
         handed = with_marks s (turn_on fresh s.marks);
         running = idle;
         area = put_shares s (share_lying s fresh helpers stand_ins (carry s fresh helpers stand_ins area p.carried left lent)) fresh area;
@@ -164,7 +164,7 @@ module _ (s : Record) (p : Running) (area lent : List ℕ) (allowance : ℕ) whe
         packets = carry s fresh helpers stand_ins area p.carried left lent;
       })
       (record {
-        answer = said (Done allowance);
+        answer = said (Ok allowance);
         handed = s;
         running = with_carried p (p.carried + allowance);
         area = area;
@@ -245,7 +245,7 @@ module _ (laws : AllLaws) (b : Book) (area : List ℕ) (v : Inv b area) (packets
   step-taken : (allowance : ℕ) (t : Bool) → leb r.left allowance ≡ t
       → Good (keeping allowance)
       (pick t (record {
-        answer = said (Done r.left);
+        answer = said (Ok r.left);
         handed = with_marks rec (turn_on r.fresh rec.marks);
         running = idle;
         area = put_shares rec (share_lying rec r.fresh r.helpers r.stand_ins (carry rec r.fresh r.helpers r.stand_ins area (carried_by b r) r.left lent)) r.fresh area;
@@ -253,7 +253,7 @@ module _ (laws : AllLaws) (b : Book) (area : List ℕ) (v : Inv b area) (packets
         packets = carry rec r.fresh r.helpers r.stand_ins area (carried_by b r) r.left lent;
       })
       (record {
-        answer = said (Done allowance);
+        answer = said (Ok allowance);
         handed = rec;
         running = with_carried run (carried_by b r + allowance);
         area = area;
@@ -305,7 +305,7 @@ module _ (laws : AllLaws) (b : Book) (area : List ℕ) (v : Inv b area) (packets
       → p.running ≡ true
       → pick p.running (eqb (length lent) (packets_len (book_record b) (length (fresh_of p)))) true ≡ true
       → Good (packets_after packets (step allowance lent)) (step_done (book_record b) p area lent allowance)
-      (during o (replied (said (Done 0)) [] b) (λ r. pick (leb r.left allowance) (ended b r) (goes_on b r allowance)))
+      (during o (replied (said (Ok 0)) [] b) (λ r. pick (leb r.left allowance) (ended b r) (goes_on b r allowance)))
   step-done allowance lent none h is u q l = absurd (true-false q is)
   step-done allowance lent (some r) h is u q l =
       let long : length lent ≡ packets_len (book_record b) (length r.fresh) =

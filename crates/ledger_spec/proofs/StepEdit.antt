@@ -16,7 +16,7 @@ use Rattle.lists.proofs.Put.{length-put}
 use Rattle.lists.proofs.Tests.{not-no}
 use Rattle.sizes.specs.Refusals.{first, store_order}
 use Rattle.sizes.specs.Sizing.{α, stripes}
-use Rattle.sizes.specs.declared.Check.TheVariants.{Pass}
+use Rattle.std.specs.Prelude.{Ok}
 use Rattle.sizes.specs.declared.Refusal.TheVariants.{Count, Node, Repeat, Down}
 use Rattle.polynomial.specs.Polynomial.{plus}
 use Rattle.polynomial.proofs.Linear.{length-plus}
@@ -128,8 +128,8 @@ module _ (laws : AllLaws) (b : Book) (area : List ℕ) (v : Inv b area) (packets
       ap (λ (o : Option (List ℕ)). not (given o))
       (reading laws b area v boards (eqb-true _ _ (not-no _ (off Count refl))) (not-no _ (off Node refl)) (not-no _ (off Repeat refl)) (not-no _ (off Down refl))))
 
-  edit-alone : (offset : ℕ) (bytes boards : List ℕ) → first store_order (edit_lines_both (book_record b) p area offset bytes boards) ≡ Pass
-      → (first store_order (edit_lines (book_record b) area offset bytes boards) ≡ Pass) × (given b.repairing ≡ false)
+  edit-alone : (offset : ℕ) (bytes boards : List ℕ) → first store_order (edit_lines_both (book_record b) p area offset bytes boards) ≡ Ok tt
+      → (first store_order (edit_lines (book_record b) area offset bytes boards) ≡ Ok tt) × (given b.repairing ≡ false)
   unfolding edit_lines_both edit_lines
   edit-alone offset bytes boards e =
       let a = alone-busy (book_record b) p p.running (drop 1 (edit_lines (book_record b) area offset bytes boards)) refl e in

@@ -8,8 +8,7 @@ use lib.ListN.{length, drop, set}
 use Rattle.lists.specs.Tests.{given}
 use Rattle.lists.proofs.Boards.{all_among}
 use Rattle.sizes.specs.Refusals.{first, store_order, said}
-use Rattle.sizes.specs.declared.Answer.TheVariants.{Done}
-use Rattle.sizes.specs.declared.Check.TheVariants.{Pass}
+use Rattle.std.specs.Prelude.{Ok}
 use Rattle.board_spec.specs.Calls.{file_of}
 use Rattle.store_spec.specs.Move.{move_lines, move_done}
 use Rattle.beside_spec.specs.Running.{Running}
@@ -49,8 +48,8 @@ module _ (laws : AllLaws) (b : Book) (area : List ℕ) (v : Inv b area) (packets
   unfolding store_lines move_lines_both move_lines book_lines
   move_same = same_check laws b area v packets g p tells (move board point helpers partners) (λ _. refl)
 
-  move-alone : first store_order (move_lines_both (book_record b) p (length area) board point helpers partners) ≡ Pass
-      → (first store_order (move_lines (book_record b) (length area) board point helpers partners) ≡ Pass) × (given b.repairing ≡ false)
+  move-alone : first store_order (move_lines_both (book_record b) p (length area) board point helpers partners) ≡ Ok tt
+      → (first store_order (move_lines (book_record b) (length area) board point helpers partners) ≡ Ok tt) × (given b.repairing ≡ false)
   unfolding move_lines_both move_lines
   move-alone e =
       let a = alone-busy (book_record b) p p.running (drop 1 (move_lines (book_record b) (length area) board point helpers partners)) refl e in
@@ -66,7 +65,7 @@ module _ (laws : AllLaws) (b : Book) (area : List ℕ) (v : Inv b area) (packets
       (λ e. let a = move-alone e in
       let f = move-facts (book_record b) (length area) board point helpers partners a.0 in
       record {
-        alike = ap (λ (m : ℕ). record { answer = said (Done m); output = [] }) (total-is (book_record b) area board point helpers partners f);
+        alike = ap (λ (m : ℕ). record { answer = said (Ok m); output = [] }) (total-is (book_record b) area board point helpers partners f);
         same-record = refl;
         same-running = tells;
         inv = move-inv laws b area v board point helpers partners ok f;

@@ -14,7 +14,7 @@ use Rattle.lists.proofs.Alls.{all-imp}
 use Rattle.lists.proofs.Boards.{joined-all, all-below, all_among}
 use Rattle.lists.proofs.Tests.{both, every-all, not-no}
 use Rattle.sizes.specs.Refusals.{first, store_order}
-use Rattle.sizes.specs.declared.Check.TheVariants.{Pass}
+use Rattle.std.specs.Prelude.{Ok}
 use Rattle.sizes.specs.declared.Refusal.TheVariants.{Count, Node, Repeat, Down}
 use Rattle.sizes.proofs.Legal.{legal-facts}
 use Rattle.mbcr.specs.Read.{read_file}
@@ -107,7 +107,7 @@ module _ (laws : AllLaws) (b : Book) (area : List ℕ) (v : Inv b area) (packets
   read-gives boards output c d u r =
       let f = read-facts-at laws b area v boards c d u in
       let clear = reads-pass (book_record b) area boards output f.0 r (ap given f.1) in
-      let q : first store_order (read_lines_both (book_record b) p area boards output) ≡ Pass =
+      let q : first store_order (read_lines_both (book_record b) p area boards output) ≡ (Ok tt) =
       both-pass (book_record b) p (drop 1 (read_lines (book_record b) area boards output)) (both-off laws b area v packets g p tells) clear in
       settle-pass _ _ _ q
       ∙ ap (λ (x : Option (List ℕ)). beside p (accepted 0 (book_record b) area (over (file_of x) output))) f.1

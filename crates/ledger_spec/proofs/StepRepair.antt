@@ -11,8 +11,7 @@ use Rattle.lists.proofs.Alls.{all_left, append-all}
 use Rattle.lists.proofs.Boards.{below_all, all_among, among-append-none}
 use Rattle.lists.proofs.Tests.{true-false}
 use Rattle.sizes.specs.Refusals.{first, store_order, said}
-use Rattle.sizes.specs.declared.Answer.TheVariants.{Done}
-use Rattle.sizes.specs.declared.Check.TheVariants.{Pass}
+use Rattle.std.specs.Prelude.{Ok}
 use Rattle.mbcr.specs.Share.{share}
 use Rattle.board_spec.specs.Calls.{file_of}
 use Rattle.store_spec.specs.Calls.{list_lines, repair_lines, repair_done}
@@ -81,8 +80,8 @@ module _ (laws : AllLaws) (b : Book) (area : List ℕ) (v : Inv b area) (packets
   asked-same fresh helpers stand_ins = same_check laws b area v packets g p tells (repair fresh helpers stand_ins) (λ _. refl)
 
   -- a repair or start that is taken: none runs, and its lists pass
-  pub asked-alone : (fresh helpers stand_ins : List ℕ) → first store_order (repair_lines_both (book_record b) p (length area) fresh helpers stand_ins) ≡ Pass
-      → (first store_order (repair_lines (book_record b) (length area) fresh helpers stand_ins) ≡ Pass) × (given b.repairing ≡ false)
+  pub asked-alone : (fresh helpers stand_ins : List ℕ) → first store_order (repair_lines_both (book_record b) p (length area) fresh helpers stand_ins) ≡ Ok tt
+      → (first store_order (repair_lines (book_record b) (length area) fresh helpers stand_ins) ≡ Ok tt) × (given b.repairing ≡ false)
   unfolding repair_lines_both repair_lines list_lines
   asked-alone fresh helpers stand_ins e =
       let a = alone-busy (book_record b) p p.running (drop 1 (repair_lines (book_record b) (length area) fresh helpers stand_ins)) refl e in
@@ -97,7 +96,7 @@ module _ (laws : AllLaws) (b : Book) (area : List ℕ) (v : Inv b area) (packets
       (λ e. let a = asked-alone fresh helpers stand_ins e in
       let f = repair-facts (book_record b) (length area) fresh helpers stand_ins a.0 in
       record {
-        alike = ap (λ (m : ℕ). record { answer = said (Done m); output = [] })
+        alike = ap (λ (m : ℕ). record { answer = said (Ok m); output = [] })
             (moved-is (book_record b) area fresh helpers stand_ins (length area) (lawful laws b area v).lengths f);
         same-record = ap (with_marks (book_record b)) (marks-on fresh b.service);
         same-running = tells;

@@ -10,8 +10,7 @@ use lib.ListN.{length}
 use borrow.Author.Tests.{le-leb, eq-eqb, lt-ltb}
 use Rattle.lists.specs.Tests.{pick, alls}
 use Rattle.lists.proofs.Tests.{hold-alls}
-use Rattle.sizes.specs.declared.Answer.TheVariants.{Done}
-use Rattle.sizes.specs.declared.Check.TheVariants.{Pass}
+use Rattle.std.specs.Prelude.{Ok}
 use Rattle.sizes.specs.Refusals.{said, first, store_order}
 use Rattle.sizes.specs.declared.Refusal.TheVariants.{Area, Empty, Count, Node, Repeat, Serving, Down}
 use Rattle.sizes.proofs.Orders.{◌also◌, clear-off, off-pass}
@@ -29,14 +28,14 @@ use Rattle.store_spec.proofs.Passed.{settle-pass}
 use Rattle.ledger_spec.proofs.StepCarry.{step-by, last-packets, last-area}
 
 -- a repair that its lists allow is taken where none runs
-pub idle-taken : (s : Record) (area fresh helpers stand_ins : List ℕ) → first store_order (repair_lines s (length area) fresh helpers stand_ins) ≡ Pass
+pub idle-taken : (s : Record) (area fresh helpers stand_ins : List ℕ) → first store_order (repair_lines s (length area) fresh helpers stand_ins) ≡ Ok tt
     → repair_both s idle area fresh helpers stand_ins ≡ beside idle (repair_done s area fresh helpers stand_ins)
 unfolding repair_both repair_lines_both repair_lines list_lines sound_beside
 idle-taken s area fresh helpers stand_ins pass =
     let off = clear-off (repair_lines s (length area) fresh helpers stand_ins) store_order pass in
     let f = repair-facts s (length area) fresh helpers stand_ins pass in
     let z : not (alls (sound s ∷ sound_beside s idle ∷ [])) ≡ false = ap not (hold-alls (sound s ∷ sound_beside s idle ∷ []) (f.is-sound, (refl, tt))) in
-    let q : first store_order (repair_lines_both s idle (length area) fresh helpers stand_ins) ≡ Pass =
+    let q : first store_order (repair_lines_both s idle (length area) fresh helpers stand_ins) ≡ (Ok tt) =
     off-pass (repair_lines_both s idle (length area) fresh helpers stand_ins) store_order
     (z
     also refl
@@ -51,7 +50,7 @@ idle-taken s area fresh helpers stand_ins pass =
     settle-pass _ _ _ q
 
 module _ (s : Record) (p : Running) (area lent : List ℕ) (allowance : ℕ) (fresh helpers stand_ins : List ℕ) (left : ℕ)
-    (pass : first store_order (repair_lines s (length area) fresh helpers stand_ins) ≡ Pass)
+    (pass : first store_order (repair_lines s (length area) fresh helpers stand_ins) ≡ Ok tt)
     (runs : p.running ≡ true) (a : fresh_of p ≡ fresh) (c : helpers_of s.sizes p ≡ helpers) (d : stand_ins_of s.sizes p ≡ stand_ins)
     (some_left : 1 ≤ left) (all : p.carried + left ≡ packet_count s.sizes (length fresh)) (enough : left ≤ allowance) (laws : Lengths s.points s.sizes) where
   abbrev pub f : Repairs s (length area) fresh helpers stand_ins
@@ -75,7 +74,7 @@ module _ (s : Record) (p : Running) (area lent : List ℕ) (allowance : ℕ) (fr
       (t, (u, tt)))
 
   module _ (l : Lies s area fresh helpers stand_ins (length area) laws f p.carried lent) where
-    step-pass : first store_order (step_lines s p (length area) (length lent)) ≡ Pass
+    step-pass : first store_order (step_lines s p (length area) (length lent)) ≡ Ok tt
     unfolding step_lines
     step-pass =
         let two : List Bool = eqb (length area) (area_len s) ∷ pick p.running (eqb (length lent) (packets_len s (length (fresh_of p)))) true ∷ [] in
@@ -91,7 +90,7 @@ module _ (s : Record) (p : Running) (area lent : List ℕ) (allowance : ℕ) (fr
 
     abbrev ends : Outcome
     ends = record {
-      answer = said (Done left);
+      answer = said (Ok left);
       handed = with_marks s (turn_on fresh s.marks);
       running = idle;
       area = put_shares s (share_lying s fresh helpers stand_ins (carry s fresh helpers stand_ins area p.carried left lent)) fresh area;
@@ -105,7 +104,7 @@ module _ (s : Record) (p : Running) (area lent : List ℕ) (allowance : ℕ) (fr
         settle-pass _ _ _ step-pass
         ∙ step-by s p area lent allowance fresh helpers stand_ins left a c d left_is
         ∙ ap (λ (t : Bool). pick t ends (record {
-          answer = said (Done allowance);
+          answer = said (Ok allowance);
           handed = s;
           running = record { running = p.running; count = p.count; carried = p.carried + allowance; fresh = p.fresh; helpers = p.helpers; stand_ins = p.stand_ins };
           area = area;

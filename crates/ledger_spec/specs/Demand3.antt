@@ -2,12 +2,11 @@
 -- of careful reads (A.11) and of moves (A.10).
 -- proofs/Demand3.antt has `demand-3 : Demand3Claim`.
 -- Assumes nothing.
-use Rattle.std.specs.Prelude.{ℕ, ◌≤◌, ◌≡◌, true, List, [], map, length}
+use Rattle.std.specs.Prelude.{ℕ, ◌≤◌, ◌≡◌, true, List, [], map, length, Ok}
 use Rattle.std.proofs.Math.Option.{some}
 use Rattle.lists.specs.Tests.{every, among, different}
 use Rattle.lists.specs.Lists.{over}
 use Rattle.sizes.specs.declared.Sizes.{Sizes}
-use Rattle.sizes.specs.declared.Answer.TheVariants.{Done}
 use Rattle.sizes.specs.Refusals.{said}
 use Rattle.sizes.specs.Sizing.{max_stripes, legal}
 use Rattle.mbcr.specs.Share.{standard, share}
@@ -25,7 +24,7 @@ use Rattle.store_spec.specs.RepairLaws.{Repaired}
 -- A last step that leaves what the whole repair by these lists would leave over the same record and area: it is accepted, reports the packets that
 -- were left, hands on no repair, and the packet area then has just the whole repair's packets.
 pub record WholeStep (s : Record) (p : Running) (area packets : List ℕ) (allowance : ℕ) (fresh helpers stand_ins : List ℕ) (left : ℕ) : Type 0 where
-  pub answers : (step_call s p area packets allowance).answer ≡ said (Done left)
+  pub answers : (step_call s p area packets allowance).answer ≡ said (Ok left)
   pub would-be-taken : (repair_both s idle area fresh helpers stand_ins).answer.refusal ≡ 0
   pub same-record : (step_call s p area packets allowance).handed ≡ (repair_both s idle area fresh helpers stand_ins).handed
   pub same-running : (step_call s p area packets allowance).running ≡ (repair_both s idle area fresh helpers stand_ins).running

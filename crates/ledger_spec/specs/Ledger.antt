@@ -1,12 +1,11 @@
 -- Document 01, 'The ledger': a plain book kept beside the store, and lists of calls.
 -- Assumes nothing.
-use Rattle.std.specs.Prelude.{ℕ, ◌+◌, ◌-◌, ◌*◌, ◌<◌, ◌≡◌, true, false, not, List, [], ◌∷◌, ◌++◌, leb, ltb, eqb, length, take, set}
+use Rattle.std.specs.Prelude.{ℕ, ◌+◌, ◌-◌, ◌*◌, ◌<◌, ◌≡◌, true, false, not, List, [], ◌∷◌, ◌++◌, leb, ltb, eqb, length, take, set, Ok, Err}
 use Rattle.std.proofs.Math.Option.{Option, some, none}
 use Rattle.lists.specs.Tests.{pick, every, alls, below, among, different, apart, given}
 use Rattle.lists.specs.Lists.{Bytes, tabulate, piece, without, put, over}
 use Rattle.sizes.specs.declared.Sizes.{Sizes}
 use Rattle.sizes.specs.declared.Refusal.TheVariants.{Area, Long, Count, Node, Repeat, Short, Empty, Down, Serving, Range, Busy, Idle}
-use Rattle.sizes.specs.declared.Answer.TheVariants.{Done, Refused}
 use Rattle.sizes.specs.Sizing.{max_boards, α, B, stripes}
 use Rattle.sizes.specs.Refusals.{Said, said, Line, ◌when◌, first, store_order}
 use Rattle.board_spec.specs.Calls.{file_of}
@@ -158,35 +157,35 @@ kept_on r board = pick (among (r.fresh ++ (r.helpers ++ r.stand_ins)) board) non
 
 -- "the fresh boards .. enter service only with the last"
 abbrev pub ended : Book → Repairing → Entry
-ended b r = replied (said (Done r.left)) [] (going b none (r.fresh ++ b.service))
+ended b r = replied (said (Ok r.left)) [] (going b none (r.fresh ++ b.service))
 
 abbrev pub goes_on : Book → Repairing → ℕ → Entry
 goes_on b r m =
-    replied (said (Done m)) []
+    replied (said (Ok m)) []
     (going b (some (record { fresh = r.fresh; helpers = r.helpers; stand_ins = r.stand_ins; left = r.left - m })) b.service)
 
 -- a call that is not refused
 unfoldable pub accept : Book → Call → Entry
-accept b (write file) = replied (said (Done 0)) [] (noted b (some file) (tabulate b.sizes.n (λ i. i)))
-accept b (lose board) = replied (said (Done 0)) [] (going b (during b.repairing none (λ r. kept_on r board)) (without board b.service))
+accept b (write file) = replied (said (Ok 0)) [] (noted b (some file) (tabulate b.sizes.n (λ i. i)))
+accept b (lose board) = replied (said (Ok 0)) [] (going b (during b.repairing none (λ r. kept_on r board)) (without board b.service))
 accept b (repair fresh helpers stand_ins) =
-    replied (said (Done (stripes b.sizes (book_length b) * length fresh * (2 * b.sizes.d + b.sizes.r - 1)))) []
+    replied (said (Ok (stripes b.sizes (book_length b) * length fresh * (2 * b.sizes.d + b.sizes.r - 1)))) []
     (noted b b.file (fresh ++ b.service))
-accept b (read boards output) = replied (said (Done 0)) (over (file_of b.file) output) b
+accept b (read boards output) = replied (said (Ok 0)) (over (file_of b.file) output) b
 -- "The file that reads must return is from then on the edited one."
-accept b (edit offset bytes boards) = replied (said (Done 0)) [] (noted b (some (put (file_of b.file) offset bytes)) b.service)
+accept b (edit offset bytes boards) = replied (said (Ok 0)) [] (noted b (some (put (file_of b.file) offset bytes)) b.service)
 -- "It is finished after exactly t(d + r − 1) packets"
 accept b (start fresh helpers stand_ins) =
-    replied (said (Done 0)) []
+    replied (said (Ok 0)) []
     (going b (some (record { fresh = fresh; helpers = helpers; stand_ins = stand_ins; left = length fresh * (b.sizes.d + b.sizes.r - 1) })) b.service)
-accept b (step allowance packets) = during b.repairing (replied (said (Done 0)) [] b) (λ r. pick (leb r.left allowance) (ended b r) (goes_on b r allowance))
-accept b (careful boards output) = replied (said (Done 0)) (over (file_of b.file) output) b
+accept b (step allowance packets) = during b.repairing (replied (said (Ok 0)) [] b) (λ r. pick (leb r.left allowance) (ended b r) (goes_on b r allowance))
+accept b (careful boards output) = replied (said (Ok 0)) (over (file_of b.file) output) b
 accept b (move board point helpers partners) =
-    replied (said (Done (stripes b.sizes (book_length b) * (2 * b.sizes.d + b.sizes.r - 1)))) [] (pointed_book b (set b.points board point))
+    replied (said (Ok (stripes b.sizes (book_length b) * (2 * b.sizes.d + b.sizes.r - 1)))) [] (pointed_book b (set b.points board point))
 
 -- "A call is refused with the first number, in the store's order, whose line holds by this book, and then changes nothing"
 unfoldable pub enter : Book → Call → Entry
-enter b call = settle (first store_order (book_lines b call)) (λ x. replied (said (Refused x)) (output_of call) b) (accept b call)
+enter b call = settle (first store_order (book_lines b call)) (λ x. replied (said (Err x)) (output_of call) b) (accept b call)
 
 -- the record that the book tells, and that of the repair beside it
 abbrev pub book_record : Book → Record
@@ -212,15 +211,8 @@ reply_of o = record { answer = o.answer; output = o.output }
 
 -- the packet area after a call with this outcome: what an accepted step left
 abbrev pub packets_after : List ℕ → Call → Outcome → List ℕ
-packets_after before (write file) o = before
-packets_after before (lose board) o = before
-packets_after before (repair fresh helpers stand_ins) o = before
-packets_after before (read boards output) o = before
-packets_after before (edit offset bytes boards) o = before
-packets_after before (start fresh helpers stand_ins) o = before
 packets_after before (step allowance packets) o = pick (eqb o.answer.refusal 0) o.packets before
-packets_after before (careful boards output) o = before
-packets_after before (move board point helpers partners) o = before
+packets_after before other o = before
 
 -- ---- lists of calls
 

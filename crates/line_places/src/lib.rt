@@ -17,8 +17,7 @@ pub fn line_at(text: &[u8], at: usize, name: &[u8]) -> Told
     ensures { result ≡ line_at text.now at name.now }
 {
     let mut line = number_lines::start();
-    let mut i = at;
-    while i < text.len() {
+    for i in at..text.len() {
         match number_lines::feed(line, name, MOST, text[i]) {
             Read::More(next) => {
                 line = next;
@@ -34,7 +33,6 @@ pub fn line_at(text: &[u8], at: usize, name: &[u8]) -> Told
                 return text_in::lost(text);
             }
         }
-        i += 1;
     }
     text_in::lost(text)
 }

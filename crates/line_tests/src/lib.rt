@@ -9,12 +9,10 @@ ghost use Rattle.lists.specs.Tests.{every, below, among, different, apart};
 pub fn below(n: usize, boards: &[usize]) -> bool
     ensures { result ≡ below n boards.now }
 {
-    let mut i = 0;
-    while i < boards.len() {
-        if n <= boards[i] {
+    for board in boards {
+        if n <= *board {
             return false;
         }
-        i += 1;
     }
     true
 }
@@ -23,12 +21,10 @@ pub fn below(n: usize, boards: &[usize]) -> bool
 pub fn among_from(boards: &[usize], from: usize, x: usize) -> bool
     ensures { result ≡ among (drop from boards.now) x }
 {
-    let mut i = from;
-    while i < boards.len() {
+    for i in from..boards.len() {
         if boards[i] == x {
             return true;
         }
-        i += 1;
     }
     false
 }
@@ -37,12 +33,10 @@ pub fn among_from(boards: &[usize], from: usize, x: usize) -> bool
 pub fn different(boards: &[usize]) -> bool
     ensures { result ≡ different boards.now }
 {
-    let mut i = 0;
-    while i < boards.len() {
+    for i in 0..boards.len() {
         if among_from(boards, i + 1, boards[i]) {
             return false;
         }
-        i += 1;
     }
     true
 }
@@ -51,12 +45,10 @@ pub fn different(boards: &[usize]) -> bool
 pub fn apart(boards: &[usize], named: &[usize]) -> bool
     ensures { result ≡ apart boards.now named.now }
 {
-    let mut i = 0;
-    while i < named.len() {
-        if among_from(boards, 0, named[i]) {
+    for board in named {
+        if among_from(boards, 0, *board) {
             return false;
         }
-        i += 1;
     }
     true
 }
@@ -65,12 +57,10 @@ pub fn apart(boards: &[usize], named: &[usize]) -> bool
 pub fn point_from(points: &[u8], from: usize, x: u8) -> bool
     ensures { result ≡ among (drop from points.now) x }
 {
-    let mut i = from;
-    while i < points.len() {
+    for i in from..points.len() {
         if points[i] == x {
             return true;
         }
-        i += 1;
     }
     false
 }
@@ -79,12 +69,10 @@ pub fn point_from(points: &[u8], from: usize, x: u8) -> bool
 pub fn points_differ(points: &[u8]) -> bool
     ensures { result ≡ different points.now }
 {
-    let mut i = 0;
-    while i < points.len() {
+    for i in 0..points.len() {
         if point_from(points, i + 1, points[i]) {
             return false;
         }
-        i += 1;
     }
     true
 }
@@ -93,12 +81,10 @@ pub fn points_differ(points: &[u8]) -> bool
 pub fn zero_from(points: &[u8], from: usize) -> bool
     ensures { result ≡ every (λ x. eqb x 0) (drop from points.now) }
 {
-    let mut i = from;
-    while i < points.len() {
+    for i in from..points.len() {
         if points[i] != 0 {
             return false;
         }
-        i += 1;
     }
     true
 }

@@ -15,7 +15,7 @@ use Rattle.lists.specs.Tests.{pick, among}
 use Rattle.lists.proofs.Alls.{all-imp}
 use Rattle.lists.proofs.Boards.{all_among, among-all, among-append-left, among-append-none}
 use Rattle.lists.proofs.Tests.{true-false, every-all, all-every, alls-hold, not-no}
-use Rattle.sizes.specs.declared.Check.TheVariants.{Pass}
+use Rattle.std.specs.Prelude.{Ok}
 use Rattle.sizes.specs.declared.Refusal.TheVariants.{Area, Empty, Count, Node, Repeat}
 use Rattle.sizes.specs.Refusals.{first, store_order}
 use Rattle.sizes.proofs.Legal.{legal-facts}
@@ -45,7 +45,7 @@ use Rattle.ledger_spec.proofs.Whole.{whole-step}
 
 -- ---- lists that pass, with a board lost that they do not name
 
-module _ (s : Record) (m : ℕ) (fresh helpers stand_ins : List ℕ) (pass : first store_order (repair_lines s m fresh helpers stand_ins) ≡ Pass)
+module _ (s : Record) (m : ℕ) (fresh helpers stand_ins : List ℕ) (pass : first store_order (repair_lines s m fresh helpers stand_ins) ≡ Ok tt)
     (board : ℕ) (out : among (fresh ++ (helpers ++ stand_ins)) board ≡ false) where
   abbrev fewer : Record
   fewer = with_marks s (set s.marks board false)
@@ -94,7 +94,7 @@ module _ (s : Record) (m : ℕ) (fresh helpers stand_ins : List ℕ) (pass : fir
       go true i q e u =
           absurd (true-false (subst (λ (x : ℕ). among (fresh ++ (helpers ++ stand_ins)) x ≡ true) (sym (eqb-true board i q)) (among-append-right fresh (helpers ++ stand_ins) i e)) out)
 
-  pub still-passes : first store_order (repair_lines fewer m fresh helpers stand_ins) ≡ Pass
+  pub still-passes : first store_order (repair_lines fewer m fresh helpers stand_ins) ≡ Ok tt
   unfolding repair_lines list_lines
   still-passes =
       let off = clear-off (repair_lines s m fresh helpers stand_ins) store_order pass in
@@ -114,7 +114,7 @@ module _ (s : Record) (m : ℕ) (fresh helpers stand_ins : List ℕ) (pass : fir
 module _ (w : State) (fresh helpers stand_ins : List ℕ) where
   record Mid (v : State) (gone : List ℕ) (c : ℕ) : Type 0 where
     running-is : v.running ≡ running_by fresh helpers stand_ins c
-    pass : first store_order (repair_lines v.kept (length v.area) fresh helpers stand_ins) ≡ Pass
+    pass : first store_order (repair_lines v.kept (length v.area) fresh helpers stand_ins) ≡ Ok tt
     some_left : c < packet_count v.kept.sizes (length fresh)
     lies : Begins v.packets (contents (take c (repair_packets v.kept v.area fresh helpers stand_ins)))
 
@@ -188,7 +188,7 @@ module _ (w : State) (fresh helpers stand_ins : List ℕ) where
 
     -- packets are carried, and not the last
     more-mid : (allowance : ℕ) (packets : List ℕ) → SamePackets s v.running v.packets packets
-        → first store_order (step_lines s v.running (length v.area) (length packets)) ≡ Pass → allowance < left_of s v.running v.area packets
+        → first store_order (step_lines s v.running (length v.area) (length packets)) ≡ Ok tt → allowance < left_of s v.running v.area packets
         → Mid (record { kept = s; running = with_carried v.running (v.running.carried + allowance); area = v.area; packets = carried_on s v.running v.area packets allowance })
         gone (c + allowance)
     unfolding step_lines

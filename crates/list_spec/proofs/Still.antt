@@ -10,12 +10,10 @@ use lib.ListN.{length, drop, set}
 use borrow.Author.Tests.{leb-false, ne_eqb}
 use Rattle.lists.specs.Tests.{pick, alls, among}
 use Rattle.lists.proofs.Tests.{true-false}
-use Rattle.sizes.specs.declared.Answer.TheVariants.{Refused}
-use Rattle.sizes.specs.declared.Check.{Check}
-use Rattle.sizes.specs.declared.Check.TheVariants.{Pass, Refuse}
+use Rattle.std.specs.Prelude.{Ok, Err}
 use Rattle.sizes.specs.declared.Refusal.{Refusal}
 use Rattle.sizes.specs.declared.Refusal.TheVariants.{Busy}
-use Rattle.sizes.specs.Refusals.{said, number, Line, ◌when◌, first, store_order}
+use Rattle.sizes.specs.Refusals.{said, number, Line, ◌when◌, first, store_order, Check}
 use Rattle.sizes.proofs.Laws.{number-low}
 use Rattle.sizes.proofs.Orders.{clear-off}
 use Rattle.store_spec.specs.Record.{Record, with_marks}
@@ -32,18 +30,18 @@ use Rattle.beside_spec.proofs.BothCalls.{by, act-is}
 
 pub data Still (w : State) (e : Event) : Type 0 where
   same : next w e ≡ w → lost_by w e ≡ [] → carried_at w e ≡ 0 → Still w e
-  less : (board : ℕ) → first store_order (lose_lines_both w.kept w.running board) ≡ Pass → among (named_in w.kept.sizes w.running) board ≡ false
+  less : (board : ℕ) → first store_order (lose_lines_both w.kept w.running board) ≡ Ok tt → among (named_in w.kept.sizes w.running) board ≡ false
       → next w e ≡ record { kept = with_marks w.kept (set w.kept.marks board false); running = w.running; area = w.area; packets = w.packets }
       → lost_by w e ≡ board ∷ [] → carried_at w e ≡ 0 → Still w e
   more : (allowance : ℕ) (packets : List ℕ) → e ≡ call (step allowance packets)
-      → first store_order (step_lines w.kept w.running (length w.area) (length packets)) ≡ Pass → allowance < left_of w.kept w.running w.area packets
+      → first store_order (step_lines w.kept w.running (length w.area) (length packets)) ≡ Ok tt → allowance < left_of w.kept w.running w.area packets
       → next w e
       ≡ record { kept = w.kept; running = with_carried w.running (w.running.carried + allowance); area = w.area; packets = carried_on w.kept w.running w.area packets allowance }
       → lost_by w e ≡ [] → carried_at w e ≡ allowance → Still w e
 
 -- a refusal leaves the state
 abbrev refused_at : State → Call → Refusal → Outcome
-refused_at w c x = record { answer = said (Refused x); handed = w.kept; running = w.running; area = w.area; output = output_of c; packets = packets_of_call c }
+refused_at w c x = record { answer = said (Err x); handed = w.kept; running = w.running; area = w.area; output = output_of c; packets = packets_of_call c }
 
 packets-stay : (w : State) (c : Call) (x : Refusal) → packets_after w.packets c (refused_at w c x) ≡ w.packets
 packets-stay w (write file) x = refl
@@ -90,7 +88,7 @@ refused-still w c x e =
     (none-lost w c x e) (none-carried w c x e)
 
 -- a call that is BUSY passes nothing
-busy : (s : Record) (p : Running) (rest : List Line) → p.running ≡ true → first store_order (both_line s p ∷ (Busy when p.running ∷ rest)) ≡ Pass → ⊥
+busy : (s : Record) (p : Running) (rest : List Line) → p.running ≡ true → first store_order (both_line s p ∷ (Busy when p.running ∷ rest)) ≡ Ok tt → ⊥
 busy s p rest r h = true-false r (clear-off (both_line s p ∷ (Busy when p.running ∷ rest)) store_order h Busy refl)
 
 module _ (w : State) (r : w.running.running ≡ true) where
@@ -100,24 +98,24 @@ module _ (w : State) (r : w.running.running ≡ true) where
   abbrev p : Running
   p = w.running
 
-  asked-busy : (fresh helpers stand_ins : List ℕ) → first store_order (repair_lines_both s p (length w.area) fresh helpers stand_ins) ≡ Pass → ⊥
+  asked-busy : (fresh helpers stand_ins : List ℕ) → first store_order (repair_lines_both s p (length w.area) fresh helpers stand_ins) ≡ Ok tt → ⊥
   unfolding repair_lines_both repair_lines
   asked-busy fresh helpers stand_ins h = busy s p (drop 1 (repair_lines s (length w.area) fresh helpers stand_ins)) r h
 
-  write-busy : (file : List ℕ) → first store_order (write_lines_both s p (length w.area) file) ≡ Pass → ⊥
+  write-busy : (file : List ℕ) → first store_order (write_lines_both s p (length w.area) file) ≡ Ok tt → ⊥
   unfolding write_lines_both write_lines
   write-busy file h = busy s p (drop 1 (write_lines s (length w.area) file)) r h
 
-  edit-busy : (offset : ℕ) (bytes boards : List ℕ) → first store_order (edit_lines_both s p w.area offset bytes boards) ≡ Pass → ⊥
+  edit-busy : (offset : ℕ) (bytes boards : List ℕ) → first store_order (edit_lines_both s p w.area offset bytes boards) ≡ Ok tt → ⊥
   unfolding edit_lines_both edit_lines
   edit-busy offset bytes boards h = busy s p (drop 1 (edit_lines s w.area offset bytes boards)) r h
 
-  move-busy : (board point : ℕ) (helpers partners : List ℕ) → first store_order (move_lines_both s p (length w.area) board point helpers partners) ≡ Pass → ⊥
+  move-busy : (board point : ℕ) (helpers partners : List ℕ) → first store_order (move_lines_both s p (length w.area) board point helpers partners) ≡ Ok tt → ⊥
   unfolding move_lines_both move_lines
   move-busy board point helpers partners h = busy s p (drop 1 (move_lines s (length w.area) board point helpers partners)) r h
 
   -- a call that is taken
-  taken : (c : Call) → first store_order (store_lines s p w.area c) ≡ Pass → act w c ≡ store_done s p w.area c → (next w (call c)).running.running ≡ true → Still w (call c)
+  taken : (c : Call) → first store_order (store_lines s p w.area c) ≡ Ok tt → act w c ≡ store_done s p w.area c → (next w (call c)).running.running ≡ true → Still w (call c)
   unfolding store_lines store_done
   taken (write file) h e k = absurd (write-busy file h)
   taken (lose board) h e k = go (among (named_in s.sizes p) board) refl (ap (λ (o : Outcome). o.running.running) (sym e) ∙ k)
@@ -147,6 +145,6 @@ module _ (w : State) (r : w.running.running ≡ true) where
   still (call c) ic k = go (first store_order (store_lines s p w.area c)) refl (act-is w c)
     where
       go : (t : Check) → first store_order (store_lines s p w.area c) ≡ t → act w c ≡ by s p w.area (output_of c) (packets_of_call c) (store_done s p w.area c) t → Still w (call c)
-      go Pass q e = taken c q e k
-      go (Refuse x) q e = refused-still w c x e
+      go (Ok tt) q e = taken c q e k
+      go (Err x) q e = refused-still w c x e
   still (power_fails q) ic k = absurd ic

@@ -17,9 +17,8 @@ use Rattle.lists.specs.Lists.{All, Bytes, over}
 use Rattle.lists.proofs.Alls.{all-imp}
 use Rattle.lists.proofs.Boards.{all-below, all_among}
 use Rattle.lists.proofs.Tests.{every-all, true-false}
-use Rattle.sizes.specs.Refusals.{first, store_order}
-use Rattle.sizes.specs.declared.Check.{Check}
-use Rattle.sizes.specs.declared.Check.TheVariants.{Pass, Refuse}
+use Rattle.sizes.specs.Refusals.{first, store_order, Check}
+use Rattle.std.specs.Prelude.{Ok, Err}
 use Rattle.board_spec.specs.Calls.{file_of}
 use Rattle.store_spec.specs.Record.{Record, in_service, area_len}
 use Rattle.store_spec.specs.Packets.{Packet, contents, repair_packets}
@@ -71,17 +70,17 @@ again l (move board point helpers partners) = move board point helpers partners
 
 module _ (s : Record) (p : Running) (a b output packets lent : List ℕ) (done other : Outcome) where
   alike-by : (t : Check) → Alike done other → Alike (by s p a output packets done t) (by s p b output lent other t)
-  alike-by Pass e = e
-  alike-by (Refuse x) e = (refl, refl)
+  alike-by (Ok tt) e = e
+  alike-by (Err x) e = (refl, refl)
 
   -- a call that hands on what it was given, refused or not
   alike-kept : (t u : Check) → Alike done (record { answer = done.answer; handed = s; running = p; area = a; output = []; packets = [] })
       → Alike other (record { answer = done.answer; handed = s; running = p; area = a; output = []; packets = [] })
       → Alike (by s p a output packets done t) (by s p b output lent other u)
-  alike-kept Pass Pass e f = (e.0 ∙ sym f.0, e.1 ∙ sym f.1)
-  alike-kept Pass (Refuse y) e f = e
-  alike-kept (Refuse x) Pass e f = (sym f.0, sym f.1)
-  alike-kept (Refuse x) (Refuse y) e f = (refl, refl)
+  alike-kept (Ok u) (Ok v) e f = (e.0 ∙ sym f.0, e.1 ∙ sym f.1)
+  alike-kept (Ok tt) (Err y) e f = e
+  alike-kept (Err x) (Ok tt) e f = (sym f.0, sym f.1)
+  alike-kept (Err x) (Err y) e f = (refl, refl)
 
 module _ (s : Record) (p : Running) (a b : List ℕ) (long : length a ≡ length b) (l : List ℕ) where
   abbrev left : List ℕ → Call → Outcome
@@ -221,7 +220,7 @@ module _ (b : Book) (ideal packets : List ℕ) (v : Inv b ideal) (runs : Runs b 
       let q = many-agree (book_record b) now (file_of b.file) b.sizes.k boards c (tells-few (book_record b) now (file_of b.file) boards d n t) in
       let file : careful_file (book_record b) now boards ≡ some (file_of b.file) =
       careful-finds (book_record b) now g area-is boards (c, l, d) bn (file_of b.file) refl v.bytes q in
-      let clear : first store_order (careful_lines (book_record b) now boards output) ≡ Pass = cares-pass (book_record b) now boards output (record {
+      let clear : first store_order (careful_lines (book_record b) now boards output) ≡ (Ok tt) = cares-pass (book_record b) now boards output (record {
         is-sound = v.is-sound;
         area-is = area-is;
         is-written = w;
@@ -230,7 +229,7 @@ module _ (b : Book) (ideal packets : List ℕ) (v : Inv b ideal) (runs : Runs b 
         all-different = d;
         all_up = every-same (in_service (book_record b)) (among b.service) boards (up code_laws b ideal v) ∙ u;
       }) (subst (λ (x : ℕ). x ≤ b.sizes.n) c (few-below b.sizes.n boards low d)) r (ap given file) in
-      let pass : first store_order (careful_lines_both (book_record b) p now boards output) ≡ Pass =
+      let pass : first store_order (careful_lines_both (book_record b) p now boards output) ≡ (Ok tt) =
       both-pass (book_record b) p (drop 1 (careful_lines (book_record b) now boards output)) (both-off code_laws b ideal v packets runs p tells) clear in
       settle-pass _ _ _ pass
       ∙ ap (λ (o : Option (List ℕ)). beside p (accepted (odd_report (odd (book_record b) now (file_of o) boards)) (book_record b) now (over (file_of o) output))) file

@@ -7,10 +7,9 @@ use mathlib.Core.List.{List, [], ◌∷◌, ◌++◌}
 use native.Mathlib.Nat.{suc-mul, mul-le-mul}
 use native.Mathlib.Numerals.{add-one}
 use native.Mathlib.Omega.{arith}
-use lib.Dec.{eqb}
 use lib.ListN.{length, take, drop}
 use lib.Seq.{drop-cons, drop-drop}
-use borrow.Author.Tests.{leb-true, le-leb, eqb-true}
+use borrow.Author.Tests.{leb-true, eqb-true}
 use Rattle.lists.specs.Lists.{All}
 use Rattle.lists.specs.Tests.{pick, every, alls, among, different, apart}
 use Rattle.lists.proofs.Alls.{Distinct, all-imp, all_right, distinct-left}
@@ -18,7 +17,7 @@ use Rattle.lists.proofs.Boards.{among-not, distinct, distinct-different, distinc
 use Rattle.lists.proofs.Tests.{true-false, is_false, not-no, every-all, all-every, alls-hold, hold-alls}
 use Rattle.sizes.specs.declared.Sizes.{Sizes}
 use Rattle.sizes.specs.declared.Refusal.TheVariants.{Count}
-use Rattle.sizes.specs.declared.Check.TheVariants.{Pass}
+use Rattle.std.specs.Prelude.{Ok}
 use Rattle.sizes.specs.Refusals.{◌when◌}
 use Rattle.sizes.specs.Sizing.{legal}
 use Rattle.sizes.proofs.Legal.{legal-facts}
@@ -136,22 +135,6 @@ few-named z t w h a b =
     let y : w ≤ 32 = omega (arith, f.enough, f.few) in
     mul-le-mul x y
 
--- no fresh board, and more than r
-pub none-fails : (z : Sizes) (fresh helpers stand_ins : ℕ) → fresh < 1 → not (alls (count_tests z fresh helpers stand_ins)) ≡ true
-none-fails z fresh helpers stand_ins h = ap not (is_false _ (λ t. let k = leb-true 1 fresh (alls-hold (count_tests z fresh helpers stand_ins) t).0 in omega arith))
-
-pub most-fails : (z : Sizes) (fresh helpers stand_ins : ℕ) → z.r < fresh → not (alls (count_tests z fresh helpers stand_ins)) ≡ true
-most-fails z fresh helpers stand_ins h =
-    ap not (is_false _ (λ t. let k = leb-true fresh z.r (alls-hold (count_tests z fresh helpers stand_ins) t).1.0 in omega arith))
-
--- past both, the other two tests are all
-pub counts-hold : (z : Sizes) (fresh helpers stand_ins : ℕ) → 1 ≤ fresh → fresh ≤ z.r
-    → alls (eqb helpers (fresh * z.d) ∷ eqb stand_ins (fresh * (z.r - fresh)) ∷ []) ≡ alls (count_tests z fresh helpers stand_ins)
-counts-hold z fresh helpers stand_ins h k =
-    let a = le-leb 1 fresh h in
-    let b = le-leb fresh z.r k in
-    sym (ap₂ {C = Bool} (λ (t u : Bool). alls (t ∷ u ∷ eqb helpers (fresh * z.d) ∷ eqb stand_ins (fresh * (z.r - fresh)) ∷ [])) a b)
-
 -- what COUNT tells where it passes
 pub record Counted (z : Sizes) (fresh helpers stand_ins : ℕ) : Type 0 where
   pub some : 1 ≤ fresh
@@ -159,7 +142,7 @@ pub record Counted (z : Sizes) (fresh helpers stand_ins : ℕ) : Type 0 where
   pub helper-count : helpers ≡ fresh * z.d
   pub stand-in-count : stand_ins ≡ fresh * (z.r - fresh)
 
-pub counted : (z : Sizes) (fresh helpers stand_ins : ℕ) → asked (Count when not (alls (count_tests z fresh helpers stand_ins))) ≡ Pass → Counted z fresh helpers stand_ins
+pub counted : (z : Sizes) (fresh helpers stand_ins : ℕ) → asked (Count when not (alls (count_tests z fresh helpers stand_ins))) ≡ Ok tt → Counted z fresh helpers stand_ins
 counted z fresh helpers stand_ins h =
     let e = alls-hold (count_tests z fresh helpers stand_ins) (not-no _ (passed (Count when not (alls (count_tests z fresh helpers stand_ins))) h)) in
     record {

@@ -11,18 +11,23 @@ ghost use Rattle.sizes.specs.Refusals.{◌when◌};
 ghost use Rattle.line_checks.specs.Steps.{asked};
 ghost use Rattle.list_tests.specs.Steps.{count_tests};
 
-use sizes::{Check, Refusal, Sizes};
+use sizes::{Refusal, Sizes};
 
 // 4 COUNT of a repair: t fresh boards, 1 ≤ t ≤ r, and for each d helpers and r − t stand-ins.
-pub fn check_named_counts(sizes: Sizes, fresh: usize, helpers: usize, standins: usize) -> Check
+pub fn check_named_counts(
+    sizes: Sizes,
+    fresh: usize,
+    helpers: usize,
+    standins: usize,
+) -> Result<(), Refusal>
     requires { legal sizes ≡ true }
     ensures { result ≡ asked (Count when not (alls (count_tests sizes fresh helpers standins))) }
 {
     if fresh < 1 {
-        return Check::Refuse(Refusal::Count);
+        return Err(Refusal::Count);
     }
     if sizes.r < fresh {
-        return Check::Refuse(Refusal::Count);
+        return Err(Refusal::Count);
     }
     let each = sizes.r - fresh;
     board_lines::check_counts(helpers, fresh * sizes.d, standins, fresh * each)

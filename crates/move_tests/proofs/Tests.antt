@@ -1,12 +1,12 @@
--- What the tests of a move come to: of a board and two lists, of two tests, and of every board's mark.
+-- What the tests of a move come to: of a board and two lists, and of every board's mark.
 -- Assumes nothing.
-use Prim.Native.Nat.{ℕ, ◌+◌, ◌-◌, ◌<◌, ◌≤◌}
+use Prim.Native.Nat.{ℕ, ◌+◌, ◌<◌, ◌≤◌}
 use mathlib.Core.Path.{◌≡◌, refl, ap, ◌∙◌}
-use mathlib.Core.Bool.{Bool, true, false, not}
-use mathlib.Core.List.{List, [], ◌∷◌, ◌++◌}
+use mathlib.Core.Bool.{Bool, true, false}
+use mathlib.Core.List.{List, ◌∷◌, ◌++◌}
 use native.Mathlib.Omega.{arith}
-use lib.ListN.{take, drop, drop_of_length-le}
-use Rattle.lists.specs.Tests.{every, alls, among, different}
+use lib.ListN.{drop, drop_of_length-le}
+use Rattle.lists.specs.Tests.{every, among, different}
 use Rattle.lists.specs.Lists.{tabulate}
 use Rattle.lists.proofs.Boards.{among-append-left, among-append-none}
 use Rattle.lists.proofs.Pieces.{length-tabulate, tabulate-at}
@@ -24,21 +24,6 @@ module _ (x : ℕ) (xs ys : List ℕ) where
 
   pub neither-has : among xs x ≡ false → among ys x ≡ false → different (xs ++ ys) ≡ different (x ∷ (xs ++ ys))
   neither-has e k = rw (among-append-none xs ys x e, k) refl
-
--- ---- two tests
-
-pub two-hold : (a b : Bool) → a ≡ true → b ≡ false → not (alls (a ∷ not b ∷ [])) ≡ false
-two-hold a b ea eb = rw (ea, eb) refl
-
-pub second-fails : (a b : Bool) → a ≡ true → b ≡ true → not (alls (a ∷ not b ∷ [])) ≡ true
-second-fails a b ea eb = rw (ea, eb) refl
-
-pub first-fails : (a b : Bool) → a ≡ false → not (alls (a ∷ not b ∷ [])) ≡ true
-first-fails a b ea = rw ea refl
-
--- the first n points, as code takes them
-pub first_of : (n : ℕ) (points : List ℕ) (x : ℕ) → among (take n points) x ≡ among (take (n - 0) points) x
-first_of n points x = let e : n ≡ n - 0 = omega arith in ap (λ (m : ℕ). among (take m points) x) e
 
 -- ---- every number below n
 

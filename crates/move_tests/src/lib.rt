@@ -8,16 +8,21 @@ ghost use Rattle.board_spec.specs.Calls.{node_line};
 ghost use Rattle.line_checks.specs.Steps.{asked};
 ghost use Rattle.move_tests.specs.Steps.{new_line, up_line};
 
-use sizes::{Check, Refusal, Sizes};
+use sizes::{Refusal, Sizes};
 
 // 5 NODE of a board and two lists.
-pub fn check_known(sizes: Sizes, board: usize, helpers: &[usize], partners: &[usize]) -> Check
+pub fn check_known(
+    sizes: Sizes,
+    board: usize,
+    helpers: &[usize],
+    partners: &[usize],
+) -> Result<(), Refusal>
     ensures { result ≡ asked (node_line sizes (board ∷ (helpers.now ++ partners.now))) }
 {
     if board < sizes.n {
         return store_lines::check_two_lists(sizes, helpers, partners);
     }
-    Check::Refuse(Refusal::Node)
+    Err(Refusal::Node)
 }
 
 // Whether no board stands twice among these.
@@ -41,30 +46,27 @@ pub fn check_new(
     point: u8,
     helpers: &[usize],
     partners: &[usize],
-) -> Check
+) -> Result<(), Refusal>
     requires { n ≤ length points.now }
     ensures { result ≡ asked (new_line n points.now board point helpers.now partners.now) }
 {
     if all_differ(board, helpers, partners) {
         if line_tests::point_from(&points[0..n], 0, point) {
-            return Check::Refuse(Refusal::Repeat);
+            return Err(Refusal::Repeat);
         }
-        return Check::Pass;
+        return Ok(());
     }
-    Check::Refuse(Refusal::Repeat)
+    Err(Refusal::Repeat)
 }
 
 // 9 DOWN of all n boards.
-pub fn check_up(n: usize, marks: &[bool]) -> Check
+pub fn check_up(n: usize, marks: &[bool]) -> Result<(), Refusal>
     ensures { result ≡ asked (up_line n marks.now) }
 {
-    let mut i: usize = 0;
-    while i < n {
-        if store_lines::mark_of(marks, i) {
-            i += 1;
-        } else {
-            return Check::Refuse(Refusal::Down);
+    for i in 0..n {
+        if !store_lines::mark_of(marks, i) {
+            return Err(Refusal::Down);
         }
     }
-    Check::Pass
+    Ok(())
 }

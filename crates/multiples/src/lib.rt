@@ -14,11 +14,8 @@ use row_sums::Row;
 fn double_all(a: &mut [u8])
     ensures { a.new ≡ scale 2 a.old }
 {
-    let n = a.len();
-    let mut j: usize = 0;
-    while j < n {
-        a[j] = gf256_mul::double(a[j]);
-        j += 1;
+    for byte in a {
+        *byte = gf256_mul::double(*byte);
     }
 }
 

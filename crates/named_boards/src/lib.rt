@@ -28,8 +28,7 @@ pub fn name_boards(
     ensures { out.new ≡ join t (λ a. piece d a helpers.now ++ piece e a standins.now) }
 {
     let c = d + e;
-    let mut a: usize = 0;
-    while a < t {
+    for a in 0..t {
         let from = a * d;
         let to = from + d;
         let start = a * e;
@@ -41,6 +40,5 @@ pub fn name_boards(
             &standins[start..end],
             &mut out[at..next],
         );
-        a += 1;
     }
 }

@@ -10,7 +10,7 @@ ghost use Rattle.lists.specs.Lists.{fit};
 fn byte(file: &[u8], at: usize) -> u8
     ensures { result ≡ get_or file.now at 0 }
 {
-    if at < file.len() { file[at] } else { 0 }
+    file.get(at).copied().unwrap_or(0)
 }
 
 // As many bytes of a file from base on as out is long; past the file's end, 0.
@@ -18,10 +18,7 @@ pub fn pad(file: &[u8], base: usize, out: &mut [u8])
     requires { (base ≤ 4096 * 992) × (length out.old ≤ 992) }
     ensures { out.new ≡ fit (length out.old) (drop base file.now) }
 {
-    let m = out.len();
-    let mut t: usize = 0;
-    while t < m {
+    for t in 0..out.len() {
         out[t] = byte(file, base + t);
-        t += 1;
     }
 }

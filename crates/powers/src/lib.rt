@@ -14,12 +14,10 @@ pub fn fill_powers(points: &[u8], w: usize, tables: &mut [u8])
     ensures { tables.new ≡ join w (λ j. multiples (power_row points.now j)) ++ drop (w * 512) tables.old }
 {
     let mut power = [1u8; 32];
-    let mut j: usize = 0;
-    while j < w {
+    for j in 0..w {
         let at = j * 512;
         let end = at + 512;
         multiples::fill_multiples(&power, &mut tables[at..end]);
         row_products::scale_by(points, &mut power);
-        j += 1;
     }
 }

@@ -45,8 +45,7 @@ fn digits_on(text: &[u8], at: usize, lo: usize, hi: usize, first: usize) -> Went
     ensures { Goes text.now at (digits_on lo hi first (drop at text.now)) result × (result.ok ≡ true → (lo ≤ result.value) × (result.value ≤ hi)) }
 {
     let mut v = first;
-    let mut i = at;
-    while i < text.len() {
+    for i in at..text.len() {
         match next_digit(lo, hi, v, text[i]) {
             Digit::More(next) => {
                 v = next;
@@ -62,9 +61,8 @@ fn digits_on(text: &[u8], at: usize, lo: usize, hi: usize, first: usize) -> Went
                 return prefix_steps::stopped(i);
             }
         }
-        i += 1;
     }
-    prefix_steps::stopped(i)
+    prefix_steps::stopped(at.max(text.len()))
 }
 
 // A number from lo to hi, and byte 0A.

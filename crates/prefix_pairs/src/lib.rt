@@ -21,8 +21,7 @@ pub fn data_on(text: &[u8], at: usize, count: usize) -> Went
     ensures { Goes text.now at (λ go. pairs_on (λ m xs. true) count [] (drop at text.now) (go 0)) result }
 {
     let mut i = at;
-    let mut left = count;
-    while 0 < left {
+    for _ in 0..count {
         if !text_in::digit_at(text, i) {
             return prefix_steps::stopped(i);
         }
@@ -30,7 +29,6 @@ pub fn data_on(text: &[u8], at: usize, count: usize) -> Went
             return prefix_steps::stopped(i + 1);
         }
         i += 2;
-        left -= 1;
     }
     end_on(text, i)
 }
@@ -71,15 +69,13 @@ pub fn points_on(text: &[u8], at: usize, n: usize) -> Went
 {
     let mut points = [0u8; 32];
     let mut i = at;
-    let mut j = 0;
-    while j < n {
+    for j in 0..n {
         let end = j + 1;
         let pair = pair_on(text, i, &mut points[0..end], n - end);
         if !pair.ok {
             return pair;
         }
         i = pair.at;
-        j = end;
     }
     end_on(text, i)
 }

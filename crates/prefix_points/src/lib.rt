@@ -25,9 +25,7 @@ pub fn some_low(points: &mut [u8], high: u8, left: usize) -> bool
     ensures { (result ≡ some 16 (λ low. may_last points.old left (16 * high + low))) × Kept points.old points.new }
 {
     let last = points.len() - 1;
-    let mut low = 16;
-    while 0 < low {
-        low -= 1;
+    for low in (0..16).rev() {
         points[last] = 16 * high + low;
         if may_point(points, left) {
             return true;

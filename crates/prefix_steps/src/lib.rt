@@ -22,7 +22,7 @@ pub fn stopped(at: usize) -> Went
     Went {
         ok: false,
         value: 0,
-        at: at,
+        at,
     }
 }
 
@@ -31,16 +31,14 @@ pub fn name_on(text: &[u8], at: usize, name: &[u8]) -> Went
     ensures { Goes text.now at (λ go. name_on name.now (drop at text.now) (go 0)) result }
 {
     let mut i = at;
-    let mut j = 0;
-    while j < name.len() {
+    for b in name {
         if text.len() <= i {
             return stopped(i);
         }
-        if text[i] != name[j] {
+        if text[i] != *b {
             return stopped(i);
         }
         i += 1;
-        j += 1;
     }
     Went {
         ok: true,

@@ -30,12 +30,9 @@ pub fn feed_all(p: Parser, input: &[u8], file: &mut [u8]) -> Parser
     ensures { record { parser = result; file = file.new } ≡ feed_all (record { parser = p; file = file.old }) input.now }
 {
     let mut q = p;
-    let mut t: usize = 0;
-    while t < input.len() {
-        let b = input[t];
-        keep(q, b, file);
-        q = print_parser::feed(q, b);
-        t += 1;
+    for b in input {
+        keep(q, *b, file);
+        q = print_parser::feed(q, *b);
     }
     q
 }

@@ -17,11 +17,9 @@ use Rattle.lists.proofs.Boards.{below_all}
 use Rattle.sizes.specs.declared.Sizes.{Sizes}
 use Rattle.sizes.specs.declared.Refusal.{Refusal}
 use Rattle.sizes.specs.declared.Refusal.TheVariants.{Size, Long, Node, Short}
-use Rattle.sizes.specs.declared.Check.{Check}
-use Rattle.sizes.specs.declared.Check.TheVariants.{Pass, Refuse}
-use Rattle.sizes.specs.declared.Answer.TheVariants.{Done, Refused}
+use Rattle.std.specs.Prelude.{Ok, Err}
 use Rattle.sizes.specs.Sizing.{legal, α, B, stripes}
-use Rattle.sizes.specs.Refusals.{number, first, board_order}
+use Rattle.sizes.specs.Refusals.{number, first, board_order, Check}
 use Rattle.sizes.proofs.Legal.{legal-facts}
 use Rattle.sizes.proofs.Laws.{number-low}
 use Rattle.sizes.proofs.Orders.{clear-off}
@@ -66,12 +64,12 @@ nothing l = go (ltb (length l) 0)
 
 -- a call that no line but SHORT can refuse
 settled-written : (t : Bool) (bytes l : List ℕ)
-    → wrote_in (settled (pick t (Refuse Short) Pass) bytes l) ≡ pick t (record { count = 0; out = l }) (record { count = length bytes; out = over bytes l })
+    → wrote_in (settled (pick t (Err Short) (Ok tt)) bytes l) ≡ pick t (record { count = 0; out = l }) (record { count = length bytes; out = over bytes l })
 settled-written true bytes l = refl
 settled-written false bytes l = refl
 
 -- what a call that is done wrote
-done-taken : (n : ℕ) (bytes l after : List ℕ) → outcome (Done n) after ≡ settled Pass bytes l → (take n after ≡ bytes) × (n ≤ length after)
+done-taken : (n : ℕ) (bytes l after : List ℕ) → outcome (Ok n) after ≡ settled (Ok tt) bytes l → (take n after ≡ bytes) × (n ≤ length after)
 done-taken n bytes l after q =
     let n-is : n ≡ length bytes = ap (λ (o : BoardOutcome). o.answer.reported) q in
     let a-is : after ≡ over bytes l = ap (λ (o : BoardOutcome). o.output) q in
@@ -79,11 +77,11 @@ done-taken n bytes l after q =
 
 module _ (z : Sizes) (xs : List ℕ) (L node : ℕ) (held l : List ℕ) where
   text-first : legal z ≡ true → pointed z xs ≡ true → ltb (4096 * B z) L ≡ false → ltb node z.n ≡ true → eqb (length held) (stripes z L * α z) ≡ true
-      → first board_order (text_lines z xs L node held l) ≡ pick (ltb (length l) (length (share_text z xs L node held))) (Refuse Short) Pass
+      → first board_order (text_lines z xs L node held l) ≡ pick (ltb (length l) (length (share_text z xs L node held))) (Err Short) (Ok tt)
   unfolding text_lines
   text-first a o b c d = rw (a, o, b, c, d)
 
-  text-written : first board_order (text_lines z xs L node held l) ≡ pick (ltb (length l) (length (share_text z xs L node held))) (Refuse Short) Pass
+  text-written : first board_order (text_lines z xs L node held l) ≡ pick (ltb (length l) (length (share_text z xs L node held))) (Err Short) (Ok tt)
       → wrote_in (text_call z xs L node held l) ≡ placed (share_text z xs L node held) l
   unfolding text_call
   text-written e =
@@ -93,12 +91,12 @@ module _ (z : Sizes) (xs : List ℕ) (L node : ℕ) (held l : List ℕ) where
 -- the share of a file
 module _ (z : Sizes) (xs : List ℕ) (node : ℕ) (file area : List ℕ) where
   module _ (v : ℕ) (after : List ℕ) where
-    passing : (c : Check) → first board_order (share_lines z xs node file area) ≡ c → outcome (Done v) after ≡ settled c (share z xs file node) area
+    passing : (c : Check) → first board_order (share_lines z xs node file area) ≡ c → outcome (Ok v) after ≡ settled c (share z xs file node) area
         → (v ≤ length after)
         × ((l : List ℕ) → wrote_in (text_call z xs (length file) node (take v after) l) ≡ placed (share_text z xs (length file) node (take v after)) l)
     unfolding share_lines
-    passing (Refuse x) p e = absurd (omega (arith, number-low x, ap (λ (o : BoardOutcome). o.answer.refusal) e))
-    passing Pass p e =
+    passing (Err x) p e = absurd (omega (arith, number-low x, ap (λ (o : BoardOutcome). o.answer.refusal) e))
+    passing (Ok tt) p e =
         let d = done-taken v (share z xs file node) area after e in
         let off = clear-off (share_lines z xs node file area) board_order p in
         let ok = size-facts z xs (off Size refl) in
@@ -107,7 +105,7 @@ module _ (z : Sizes) (xs : List ℕ) (node : ℕ) (file area : List ℕ) where
         (d.1, λ l. text-written z xs (length file) node (take v after) l (text-first z xs (length file) node (take v after) l ok.0 ok.1 (off Long refl) known whole))
 
     -- that it is done leaves only room to ask of the text
-    pub share-done : outcome (Done v) after ≡ share_call z xs node file area
+    pub share-done : outcome (Ok v) after ≡ share_call z xs node file area
         → (v ≤ length after)
         × ((l : List ℕ) → wrote_in (text_call z xs (length file) node (take v after) l) ≡ placed (told z xs (length file) node (share_call z xs node file area)) l)
     unfolding share_call
@@ -115,7 +113,7 @@ module _ (z : Sizes) (xs : List ℕ) (node : ℕ) (file area : List ℕ) where
         let d = passing (first board_order (share_lines z xs node file area)) refl e in
         (d.0, λ l. d.1 l ∙ ap (λ (o : BoardOutcome). placed (told z xs (length file) node o) l) e)
 
-  pub share-refused : (x : Refusal) (after : List ℕ) → outcome (Refused x) after ≡ share_call z xs node file area
+  pub share-refused : (x : Refusal) (after : List ℕ) → outcome (Err x) after ≡ share_call z xs node file area
       → refused_line (number x) ≡ told z xs (length file) node (share_call z xs node file area)
   share-refused x after e =
       sym (if-ne (number x) 0 _ _ (λ q. omega (arith, number-low x))) ∙ ap (told z xs (length file) node) e

@@ -10,7 +10,7 @@ ghost use Rattle.printer.specs.Printer.{refused_line, told};
 ghost use Rattle.print_share.specs.Steps.{placed, wrote_in, to_write};
 
 use printer::Parser;
-use sizes::{Answer, Sizes};
+use sizes::Sizes;
 
 // The line of a refusal, to the beginning of out. Answers how many bytes it has.
 fn refused(x: u8, out: &mut [u8]) -> usize
@@ -30,8 +30,8 @@ fn text(z: Sizes, points: [u8; 32], total: usize, node: usize, held: &[u8], out:
 {
     let answer = board_text::text(z, points, total, node, held, out);
     match answer {
-        Answer::Done(count) => count,
-        Answer::Refused(_) => 0,
+        Ok(count) => count,
+        Err(_) => 0,
     }
 }
 
@@ -49,8 +49,8 @@ fn told(
 {
     let answer = board_share::share(z, points, node, file, share);
     match answer {
-        Answer::Done(count) => text(z, points, file.len(), node, &share[..count], out),
-        Answer::Refused(x) => refused(x.number(), out),
+        Ok(count) => text(z, points, file.len(), node, &share[..count], out),
+        Err(x) => refused(x.number(), out),
     }
 }
 

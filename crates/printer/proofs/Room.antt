@@ -10,11 +10,10 @@ use borrow.Author.Tests.{le-ltb}
 use Rattle.lists.specs.Lists.{fit}
 use Rattle.lists.proofs.Pieces.{length-fit}
 use Rattle.sizes.specs.declared.Sizes.{Sizes}
-use Rattle.sizes.specs.declared.Check.{Check}
-use Rattle.sizes.specs.declared.Check.TheVariants.{Pass, Refuse}
+use Rattle.std.specs.Prelude.{Ok, Err}
 use Rattle.sizes.specs.declared.Refusal.TheVariants.{Short}
 use Rattle.sizes.specs.Sizing.{α, stripes}
-use Rattle.sizes.specs.Refusals.{◌when◌, first, board_order}
+use Rattle.sizes.specs.Refusals.{◌when◌, first, board_order, Check}
 use Rattle.mbcr.specs.Share.{share}
 use Rattle.board_spec.specs.Text.{share_text}
 use Rattle.board_spec.specs.Calls.{settled, size_line, long_line, node_line, share_lines, share_call}
@@ -22,8 +21,8 @@ use Rattle.printer.specs.Printer.{told, shared}
 
 module _ (z : Sizes) (xs : List ℕ) where
   told_same : (L node : ℕ) (c : Check) (bytes a b : List ℕ) → told z xs L node (settled c bytes a) ≡ told z xs L node (settled c bytes b)
-  told_same L node (Refuse x) bytes a b = refl
-  told_same L node Pass bytes a b = ap (share_text z xs L node) (take_at bytes _ (length bytes) refl ∙ sym (take_at bytes _ (length bytes) refl))
+  told_same L node (Err x) bytes a b = refl
+  told_same L node (Ok tt) bytes a b = ap (share_text z xs L node) (take_at bytes _ (length bytes) refl ∙ sym (take_at bytes _ (length bytes) refl))
 
   module _ (node : ℕ) (file output : List ℕ) (enough : stripes z (length file) * α z ≤ length output) where
     lines_same : share_lines z xs node file (fit (stripes z (length file) * α z) []) ≡ share_lines z xs node file output

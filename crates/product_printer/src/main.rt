@@ -6,10 +6,8 @@
 // Writes the row of a.
 fn print_row(a: u8) {
     let mut row = [0u8; 257];
-    let mut b: usize = 0;
-    while b < 256 {
+    for b in 0..256usize {
         row[b] = gf256_mul::mul(a, b as u8);
-        b += 1;
     }
     row[256] = gf256_rows::inverse(a);
     io::write_all(1, &row);
@@ -20,9 +18,7 @@ fn main(rt: HostRuntime) {
     let mut input = [0u8; 256];
     let got = standard_input::read_once(&mut reader, &mut input);
     let n = io::count(got, &input);
-    let mut i: usize = 0;
-    while i < n {
-        print_row(input[i]);
-        i += 1;
+    for a in &input[..n] {
+        print_row(*a);
     }
 }

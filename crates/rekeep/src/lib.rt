@@ -64,10 +64,8 @@ fn rekeep_boards(
     ensures { area.new ≡ rekept sizes points.now part stripes board y sizes.n area.old }
 {
     let n = sizes.n;
-    let mut i: usize = 0;
-    while i < n {
+    for i in 0..n {
         rekeep_at(sizes, points, inverses, part, stripes, board, y, i, area);
-        i += 1;
     }
 }
 

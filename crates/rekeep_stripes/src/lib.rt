@@ -49,12 +49,10 @@ fn patch_stripes(sizes: Sizes, t: usize, ff: &[u8], gf: &[u8], stripes: usize, h
     ensures { held.new ≡ join stripes (λ s. patch_by sizes t ff.now gf.now (piece (α sizes) s held.old)) }
 {
     let a = 2 * sizes.d + sizes.r - 1;
-    let mut s: usize = 0;
-    while s < stripes {
+    for s in 0..stripes {
         let from = s * a;
         let to = from + a;
         patch(sizes, t, ff, gf, &mut held[from..to]);
-        s += 1;
     }
 }
 

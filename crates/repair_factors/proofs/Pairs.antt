@@ -6,7 +6,7 @@ use mathlib.Core.List.{List, ◌++◌}
 use Prim.Native.Nat.{ℕ, ◌+◌, ◌*◌, ◌/◌, ◌%◌, ◌<◌}
 use native.Mathlib.Nat.{div-lt_iff_lt-mul}
 use native.Mathlib.Omega.{arith}
-use borrow.Author.Tests.{lt-ltb, le-ltb, ltb-true, ltb-false, eqb-true, eqb-false, eq-eqb, ne_eqb}
+use borrow.Author.Tests.{lt-ltb, le-ltb, ltb-true, ltb-false, eqb-true, eqb-false, eq-eqb}
 use lib.Dec.{eqb, ltb}
 use lib.ListN.{length, get_or, take, drop}
 use lib.Seq.{take_all, drop_at}
@@ -110,9 +110,6 @@ unfolding column_row
 row-taken j h c i rows out₀ out e l eo =
     eo ∙ ap (λ (m : ℕ). fit m (tabulate c (λ t. get_or rows (t * 32 + i) 0))) l
     ∙ sym (ap (λ (t : Bool). pick t (fit 32 (tabulate c (λ t. get_or rows (t * 32 + i) 0))) out₀) (eq-eqb j h e))
-
-pub row-left : (j h : ℕ) (a out : List ℕ) → (j ≡ h → ⊥) → out ≡ pick (eqb j h) a out
-row-left j h a out n = sym (ap (λ (t : Bool). pick t a out) (ne_eqb j h n))
 
 pub near-is : (h n m c : ℕ) (near : List ℕ) → m ≡ c → near ≡ tabulate m (λ t. (h + t) % n) → near ≡ tabulate c (λ t. (h + t) % n)
 near-is h n m c near e en = en ∙ ap (λ (q : ℕ). tabulate q (λ t. (h + t) % n)) e

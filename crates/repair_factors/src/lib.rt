@@ -32,14 +32,10 @@ fn put_rows(
     requires { (1 ≤ d) × (c ≤ 32) × (c * 32 ≤ length rows.now) × (below 32 fresh.now ≡ true) × (length helpers.now ≡ length fresh.now * d) × (length helpers.now ≤ 256) × (length out.old ≡ length helpers.now * 32) }
     ensures { out.new ≡ join (length helpers.now) (λ p. pick (eqb (get_or helpers.now p 0) h) (column_row c (get_or fresh.now (p / d) 0) rows.now) (piece 32 p out.old)) }
 {
-    let m = helpers.len();
-    let mut p: usize = 0;
-    while p < m {
+    for p in 0..helpers.len() {
         let at = p * 32;
         let end = at + 32;
-        let a = p / d;
-        put_row(c, h, helpers[p], fresh[a], rows, &mut out[at..end]);
-        p += 1;
+        put_row(c, h, helpers[p], fresh[p / d], rows, &mut out[at..end]);
     }
 }
 
@@ -59,12 +55,10 @@ fn pair_rows(
     requires { (inverses.now ≡ tabulate 256 inverse) × (length points.now ≡ 32) × (n ≤ 32) × (1 ≤ d) × (c ≤ 32) × (below n fresh.now ≡ true) × (below n helpers.now ≡ true) × (length helpers.now ≡ length fresh.now * d) × (length helpers.now ≤ 256) × (length near.old ≡ c) × (length rows.old ≡ c * 32) × (length out.old ≡ length helpers.now * 32) }
     ensures { out.new ≡ join (length helpers.now) (pair_row_at points.now n d c fresh.now helpers.now) }
 {
-    let mut h: usize = 0;
-    while h < n {
+    for h in 0..n {
         lagrange_factors::boards_from(n, h, near);
         lagrange_rows::lagrange_rows(points, near, inverses, rows);
         put_rows(d, c, h, fresh, helpers, rows, out);
-        h += 1;
     }
 }
 

@@ -26,8 +26,7 @@ pub fn all_g(
 {
     let d = sizes.d;
     let one = (d + (d + sizes.r)) * 32;
-    let mut a: usize = 0;
-    while a < t {
+    for a in 0..t {
         let from = a * c;
         let to = from + d;
         let at = a * one;
@@ -35,7 +34,6 @@ pub fn all_g(
         let left = a * lanes;
         let right = left + lanes;
         row_values::row_sums(&firsts[from..to], &rows[at..mid], &mut gs[left..right]);
-        a += 1;
     }
 }
 

@@ -31,9 +31,7 @@ pub fn hear(
     let d = sizes.d;
     let w = d + sizes.r;
     let a = 2 * d + sizes.r - 1;
-    let m = helpers.len();
-    let mut p: usize = 0;
-    while p < m {
+    for p in 0..helpers.len() {
         let j = helpers[p];
         let from = j * part + s * a;
         let to = from + a;
@@ -43,6 +41,5 @@ pub fn hear(
         let q = stripe_helper::helper_pair(d, w, &ff[row..fend], &gf[row..gend], &area[from..to]);
         firsts[p] = q.first;
         seconds[p] = q.second;
-        p += 1;
     }
 }

@@ -24,19 +24,10 @@ fn put_word(word: u64, out: &mut [u8])
     ensures { out.new ≡ bytes 8 word }
 {
     let mut rest = word;
-    let mut i: usize = 0;
-    while i < 8 {
-        out[i] = (rest % 256) as u8;
-        rest = rest / 256;
-        i += 1;
+    for b in out.iter_mut() {
+        *b = (rest % 256) as u8;
+        rest /= 256;
     }
-}
-
-// A byte as a number.
-fn wide(b: u8) -> u64
-    ensures { (result ≡ b) × (result < 256) }
-{
-    b as u64
 }
 
 // The word of eight bytes, the lowest first.
@@ -45,10 +36,8 @@ fn word_of(eight: &[u8]) -> u64
     ensures { result ≡ from_bytes eight.now }
 {
     let mut word: u64 = 0;
-    let mut i: usize = 8;
-    while 0 < i {
-        i -= 1;
-        word = word * 256 + wide(eight[i]);
+    for i in (0..eight.len()).rev() {
+        word = word * 256 + u64::from(eight[i]);
     }
     word
 }
@@ -58,12 +47,10 @@ pub fn fill_bytes(words: &[u64], out: &mut [u8])
     requires { length out.old ≡ length words.now * 8 }
     ensures { out.new ≡ joined (bytes 8) words.now }
 {
-    let mut q: usize = 0;
-    while q < words.len() {
+    for (q, word) in words.iter().enumerate() {
         let a = q * 8;
         let e = a + 8;
-        put_word(words[q], &mut out[a..e]);
-        q += 1;
+        put_word(*word, &mut out[a..e]);
     }
 }
 
@@ -72,11 +59,9 @@ pub fn put_packed(packed: &[u8], words: &mut [u64])
     requires { length packed.now ≡ length words.old * 8 }
     ensures { words.new ≡ pack (length words.old) packed.now }
 {
-    let mut q: usize = 0;
-    while q < words.len() {
+    for (q, word) in words.iter_mut().enumerate() {
         let a = q * 8;
         let e = a + 8;
-        words[q] = word_of(&packed[a..e]);
-        q += 1;
+        *word = word_of(&packed[a..e]);
     }
 }

@@ -30,10 +30,8 @@ pub fn put_stripes(
     requires { (legal sizes ≡ true) × (sizes.n ≤ lanes) × (lanes ≤ 32) × (length rows.now ≡ length fresh.now * ((sizes.d + (sizes.d + sizes.r)) * 32)) × (part ≤ 253952) × (s * α sizes + α sizes ≤ part) × Naming sizes (length fresh.now) c × (below sizes.n fresh.now ≡ true) × (length seconds.now ≡ length fresh.now * c) × (length gs.now ≡ length fresh.now * lanes) × (length got.old ≡ sizes.d + sizes.r) × (length f.old ≡ lanes) × (length area.old ≡ sizes.n * part) }
     ensures { area.new ≡ puts (λ a. get_or fresh.now a 0 * part + s * α sizes) (stripe_by sizes c lanes rows.now fresh.now seconds.now gs.now) (length fresh.now) area.old }
 {
-    let t = fresh.len();
     let w = 2 * sizes.d + sizes.r - 1;
-    let mut a: usize = 0;
-    while a < t {
+    for a in 0..fresh.len() {
         let from = fresh[a] * part + s * w;
         let to = from + w;
         repair_finish::finish(
@@ -49,6 +47,5 @@ pub fn put_stripes(
             f,
             &mut area[from..to],
         );
-        a += 1;
     }
 }

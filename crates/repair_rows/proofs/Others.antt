@@ -3,14 +3,12 @@
 use Prim.Native.Nat.{ℕ, suc, ◌+◌, ◌*◌, ◌-◌, ◌≤◌, ◌<◌}
 use mathlib.Core.Path.{◌≡◌, refl, ap, ap₂, ◌∙◌}
 use mathlib.Core.Bool.{Bool, true, false}
-use mathlib.Core.List.{List, ◌++◌, append-nil}
+use mathlib.Core.List.{List, ◌++◌}
 use native.Mathlib.Nat.{mul-le-mul_left, le_trans}
 use native.Mathlib.Omega.{arith}
 use lib.Dec.{leb, ltb}
-use lib.ListN.{length, get_or, take, drop, length-append, length-take, length-drop, drop_of_length-le}
-use lib.Seq.{take_all}
-use borrow.Rule.Slice.PartMut.{put_mid}
-use borrow.Author.Tests.{leb-true, ltb-true, ltb-false}
+use lib.ListN.{length, get_or, drop, length-append, length-take, length-drop}
+use borrow.Author.Tests.{leb-true}
 use Rattle.lists.specs.Tests.{pick, every, below}
 use Rattle.lists.specs.Lists.{tabulate, piece}
 use Rattle.lists.proofs.Alls.{all-at, append-all}
@@ -22,23 +20,9 @@ use Rattle.sizes.specs.declared.Sizes.{Sizes}
 use Rattle.sizes.proofs.Legal.{Legal}
 use Rattle.lagrange_factors.proofs.Values.{board-below}
 use Rattle.stripe_finish.specs.Steps.{board_rows}
-use Rattle.stripe_finish.proofs.Finished.{back-next, length-board-rows}
+use Rattle.stripe_finish.proofs.Finished.{length-board-rows}
 use Rattle.repair_hear.specs.Steps.{Naming}
 use Rattle.repair_rows.specs.Steps.{past, others_at, helpers_at, partners_at, fresh_rows}
-
-pub past-under : (a u : ℕ) → u < a → u ≡ past a u
-past-under a u h = go (ltb u a) refl
-  where
-    go : (t : Bool) → ltb u a ≡ t → u ≡ pick t u (suc u)
-    go true e = refl
-    go false e = absurd (omega (arith, h, ltb-false u a e))
-
-pub past-over : (a u : ℕ) → a ≤ u → suc u ≡ past a u
-past-over a u h = go (ltb u a) refl
-  where
-    go : (t : Bool) → ltb u a ≡ t → suc u ≡ pick t u (suc u)
-    go true e = absurd (omega (arith, h, ltb-true u a e))
-    go false e = refl
 
 pub past-below : (a u r : ℕ) → u < r - 1 → past a u < r
 past-below a u r h = go (ltb u a)
@@ -59,21 +43,6 @@ length-others fresh a = length-tabulate (length fresh - 1) (λ u. get_or fresh (
 -- those of two lists
 pub both_below : (n : ℕ) (xs ys : List ℕ) → below n xs ≡ true → below n ys ≡ true → below n (xs ++ ys) ≡ true
 both_below n xs ys h k = all-below n (xs ++ ys) (append-all (λ x. x < n) xs ys (below_all n xs h) (below_all n ys k))
-
--- the stand-ins, put in, and the other fresh boards behind them
-pub partners-made : (ss os out a b : List ℕ) → length out ≡ length ss + length os
-    → (let m = length ss in a ≡ take (length (take (m - 0) (drop 0 out))) ss) → b ≡ os
-    → (let m = length ss in let out' = put_mid 0 (m - 0) out a in put_mid m (length out' - m) out' b ≡ ss ++ os)
-partners-made ss os out a b l ea eb =
-    let m : ℕ = length ss in
-    let k : length (take (m - 0) (drop 0 out)) ≡ m = simp length-take (omega arith) in
-    let a' : a ≡ ss = ea ∙ ap (λ (q : ℕ). take q ss) k ∙ take_all m ss (omega arith) in
-    let la : length a ≡ m = ap length a' in
-    let out' : List ℕ = put_mid 0 (m - 0) out a in
-    let lo : length out' ≡ length out = length-append a (drop (m - 0) out) ∙ simp length-drop (omega arith) in
-    back-next m (length out' - m) out a b la
-    ∙ ap (λ (q : List ℕ). (a ++ b) ++ q) (drop_of_length-le (drop m out) {i = length out' - m} (simp length-drop (omega arith)))
-    ∙ append-nil (a ++ b) ∙ ap₂ {C = List ℕ} (λ x y. x ++ y) a' eb
 
 -- the rows, from what the callees give
 pub rows_are : (z : Sizes) (c : ℕ) (pts fresh named hs ss boards rows : List ℕ) (a : ℕ) → boards ≡ ss ++ others_at fresh a → ss ≡ drop z.d (piece c a named)

@@ -26,12 +26,9 @@ fn other_boards(fresh: &[usize], a: usize, out: &mut [usize])
     requires { (length fresh.now ≤ 32) × (length out.old ≡ length fresh.now - 1) × (1 ≤ length fresh.now) }
     ensures { out.new ≡ others_at fresh.now a }
 {
-    let m = out.len();
-    let mut u: usize = 0;
-    while u < m {
+    for u in 0..out.len() {
         let b = past(a, u);
         out[u] = fresh[b];
-        u += 1;
     }
 }
 
@@ -91,10 +88,8 @@ fn rows_in(
     requires { (legal sizes ≡ true) × (length points.now ≡ 32) × (inverses.now ≡ tabulate 256 inverse) × Naming sizes (length fresh.now) c × (below sizes.n fresh.now ≡ true) × (length named.now ≡ length fresh.now * c) × (below sizes.n named.now ≡ true) × (length boards.old ≡ sizes.r - 1) × (length all.old ≡ sizes.d + sizes.r) × (length rows.old ≡ length fresh.now * ((sizes.d + (sizes.d + sizes.r)) * 32)) }
     ensures { rows.new ≡ join (length fresh.now) (fresh_rows sizes c points.now fresh.now named.now) }
 {
-    let t = fresh.len();
     let one = (sizes.d + (sizes.d + sizes.r)) * 32;
-    let mut a: usize = 0;
-    while a < t {
+    for a in 0..fresh.len() {
         let at = a * one;
         let end = at + one;
         fresh_rows(
@@ -109,7 +104,6 @@ fn rows_in(
             all,
             &mut rows[at..end],
         );
-        a += 1;
     }
 }
 

@@ -17,12 +17,10 @@ pub fn sent(lanes: usize, gs: &[u8], i: usize, a: usize, out: &mut [u8])
     ensures { out.new ≡ sent_by (length out.old + 1) lanes gs.now i a }
 {
     let m = out.len();
-    let mut u: usize = 0;
-    while u < m {
+    for u in 0..m {
         let b = repair_rows::past(a, u);
         let at = b * lanes + i;
         out[u] = gs[at];
-        u += 1;
     }
 }
 

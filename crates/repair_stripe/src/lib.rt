@@ -70,12 +70,10 @@ pub fn repair_stripes(
     requires { (legal sizes ≡ true) × (fl ≤ 32) × (gl ≤ 32) × (sizes.n ≤ lanes) × (lanes ≤ 32) × (length ff.now ≡ length fresh.now * c * 32) × (length gf.now ≡ length fresh.now * c * 32) × (length rows.now ≡ length fresh.now * ((sizes.d + (sizes.d + sizes.r)) * 32)) × (part ≤ 253952) × (stripes * α sizes ≤ part) × (stripes ≤ 4096) × Naming sizes (length fresh.now) c × (below sizes.n fresh.now ≡ true) × (length named.now ≡ length fresh.now * c) × (below sizes.n named.now ≡ true) × (different fresh.now ≡ true) × (apart fresh.now named.now ≡ true) × (length firsts.old ≡ length fresh.now * c) × (length seconds.old ≡ length fresh.now * c) × (length gs.old ≡ length fresh.now * lanes) × (length got.old ≡ sizes.d + sizes.r) × (length f.old ≡ lanes) × (length area.old ≡ sizes.n * part) }
     ensures { area.new ≡ puts (λ a. get_or fresh.now a 0 * part) (λ a. join stripes (λ s. rebuilt_by sizes fl gl lanes ff.now gf.now rows.now (λ j. piece (α sizes) s (drop (j * part) area.old)) fresh.now c named.now a)) (length fresh.now) area.old }
 {
-    let mut s: usize = 0;
-    while s < stripes {
+    for s in 0..stripes {
         repair_stripe(
             sizes, fl, gl, lanes, ff, gf, rows, part, s, fresh, c, named, firsts, seconds, gs, got,
             f, area,
         );
-        s += 1;
     }
 }

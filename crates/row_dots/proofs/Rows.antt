@@ -6,7 +6,7 @@ use Prim.Native.Nat.{ℕ, zero, suc, ◌+◌, ◌*◌, ◌-◌, ◌<◌, ◌≤�
 use native.Mathlib.Nat.{add-zero, suc-mul, sub-zero}
 use native.Mathlib.Numerals.{add-one}
 use native.Mathlib.Omega.{arith}
-use lib.ListN.{length, get_or, take, drop, set, length-take, length-drop, drop_of_length-le}
+use lib.ListN.{length, get_or, take, drop, set, replicate, length-take, length-drop, drop_of_length-le}
 use lib.Seq.{get_or-append-add, get_or-drop, take_at, drop_at, drop-drop, take-take, take-append-le, length-take-le, drop-cons}
 use borrow.Rule.Slice.PartMut.{put_mid}
 use Rattle.lists.specs.Lists.{tabulate, concat, join, fit}
@@ -41,6 +41,11 @@ pub sum-turn : (f : ℕ → ℕ) (j s v : ℕ) → s ≡ sum j f → v ≡ f j �
 sum-turn f j s v e h = rw (add-one j) (ap₂ add e h ∙ sym (sum-suc j f))
 
 -- ---- in place
+
+-- zeros, as a list of them and by their places
+pub zeros : (n : ℕ) → replicate {A = ℕ} n 0 ≡ tabulate n (λ _. 0)
+zeros zero = refl
+zeros (suc n) = ap (λ (l : List ℕ). 0 ∷ l) (zeros n)
 
 -- what is not yet done is as it was
 pub rest_at : (f : ℕ → ℕ) (a₀ a : List ℕ) (t : ℕ) → a ≡ tabulate t f ++ drop t a₀ → get_or a t 0 ≡ get_or a₀ t 0

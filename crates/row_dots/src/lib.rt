@@ -1,7 +1,7 @@
 // Rows of bytes, multiplied byte by byte: a sum of products, and a row times a byte, times a row, and times the differences to a point.
 // Assumes nothing.
 
-#![tactic(auto)]
+#![tactic(auto, using(crate::proofs::Rows::zeros))]
 
 ghost use Rattle.std.specs.Prelude.{◌≡◌, ◌≤◌, length, get_or, take};
 ghost use Rattle.lists.specs.Lists.{tabulate};
@@ -14,12 +14,7 @@ use gf256_mul::{multiples_of, times};
 pub fn clear(out: &mut [u8])
     ensures { out.new ≡ tabulate (length out.old) (λ j. 0) }
 {
-    let n = out.len();
-    let mut j: usize = 0;
-    while j < n {
-        out[j] = 0;
-        j += 1;
-    }
+    out.fill(0);
 }
 
 // The first bytes of a, as many as out has.
@@ -28,11 +23,7 @@ pub fn copy(a: &[u8], out: &mut [u8])
     ensures { out.new ≡ take (length out.old) a.now }
 {
     let n = out.len();
-    let mut j: usize = 0;
-    while j < n {
-        out[j] = a[j];
-        j += 1;
-    }
+    out.copy_from_slice(&a[..n]);
 }
 
 // The sum of the products a[j] b[j], over the bytes of a.
@@ -40,12 +31,9 @@ pub fn dot(a: &[u8], b: &[u8]) -> u8
     requires { length a.now ≤ length b.now }
     ensures { result ≡ sum (length a.now) (λ j. mul (get_or a.now j 0) (get_or b.now j 0)) }
 {
-    let n = a.len();
     let mut total: u8 = 0;
-    let mut j: usize = 0;
-    while j < n {
-        total = total ^ times(multiples_of(a[j]), b[j]);
-        j += 1;
+    for j in 0..a.len() {
+        total ^= times(multiples_of(a[j]), b[j]);
     }
     total
 }
@@ -55,11 +43,8 @@ pub fn scale(c: u8, a: &mut [u8])
     ensures { a.new ≡ tabulate (length a.old) (λ j. mul c (get_or a.old j 0)) }
 {
     let m = multiples_of(c);
-    let n = a.len();
-    let mut j: usize = 0;
-    while j < n {
-        a[j] = times(m, a[j]);
-        j += 1;
+    for byte in a {
+        *byte = times(m, *byte);
     }
 }
 
@@ -68,11 +53,8 @@ pub fn scale_by(b: &[u8], a: &mut [u8])
     requires { length a.old ≤ length b.now }
     ensures { a.new ≡ tabulate (length a.old) (λ j. mul (get_or a.old j 0) (get_or b.now j 0)) }
 {
-    let n = a.len();
-    let mut j: usize = 0;
-    while j < n {
+    for j in 0..a.len() {
         a[j] = times(multiples_of(a[j]), b[j]);
-        j += 1;
     }
 }
 
@@ -81,10 +63,7 @@ pub fn scale_by_difference(x: u8, ys: &[u8], a: &mut [u8])
     requires { length a.old ≤ length ys.now }
     ensures { a.new ≡ tabulate (length a.old) (λ j. mul (add (get_or ys.now j 0) x) (get_or a.old j 0)) }
 {
-    let n = a.len();
-    let mut j: usize = 0;
-    while j < n {
+    for j in 0..a.len() {
         a[j] = times(multiples_of(ys[j] ^ x), a[j]);
-        j += 1;
     }
 }

@@ -11,11 +11,8 @@ pub fn scale_by(b: &[u8], a: &mut [u8])
     requires { length a.old ≡ length b.now }
     ensures { a.new ≡ products a.old b.now }
 {
-    let n = a.len();
-    let mut j: usize = 0;
-    while j < n {
+    for j in 0..a.len() {
         let m = gf256_mul::multiples_of(a[j]);
         a[j] = gf256_mul::times(m, b[j]);
-        j += 1;
     }
 }

@@ -1,42 +1,18 @@
--- Bytes of words and of rows: what is put together of eight bytes has these bytes, and a sum has the sums of the bytes.
+-- Bytes of words and of rows: four words in a row are its bytes, and a sum has the sums of the bytes.
 -- Assumes nothing.
 use mathlib.Core.Path.{◌≡◌, refl, sym, ap, ap₂, ◌∙◌}
 use mathlib.Core.List.{List, [], ◌∷◌, ◌++◌, append-nil, append_assoc}
-use Prim.Native.Nat.{ℕ, zero, suc, ◌+◌, ◌*◌, ◌-◌, ◌/◌, ◌%◌, ◌<◌, ◌≤◌}
-use native.Mathlib.Nat.{add-zero}
-use native.Mathlib.Numerals.{add-one}
+use Prim.Native.Nat.{ℕ, zero, suc, ◌+◌, ◌/◌}
 use native.Mathlib.Omega.{arith}
-use lib.ListN.{length, get_or, take, drop, set, length-append, length-drop, drop_of_length-le}
-use lib.Seq.{get_or-drop, drop-drop, take-add, take_all, take_at, drop_at, take-suc-set}
+use lib.ListN.{length, take, drop, length-append, drop_of_length-le}
+use lib.Seq.{drop-drop, take-add, take_at, drop_at}
 use lib.Bits.{bit_xor}
 use borrow.Rule.Slice.PartMut.{put_mid}
-use Rattle.lists.specs.Lists.{Bytes, tabulate}
-use Rattle.lists.proofs.Pieces.{tabulate-take, tabulate-ext}
 use Rattle.gf256.specs.Field.{add}
 use Rattle.gf256.proofs.Sums.{add-mod, add-div}
 use Rattle.polynomial.specs.Polynomial.{plus}
 use Rattle.row_sums.specs.declared.Row.{Row}
 use Rattle.row_sums.specs.Steps.{bytes_of, row_bytes}
-
--- a number made of bytes, the lowest first
-abbrev pub word_of : List ℕ → ℕ
-word_of [] = 0
-word_of (b ∷ l) = b + 256 * word_of l
-
-low : (b y : ℕ) → b < 256 → (b + 256 * y) % 256 ≡ b
-low b y h = omega arith
-
-rest : (b y : ℕ) → b < 256 → (b + 256 * y) / 256 ≡ y
-rest b y h = omega arith
-
-pub bytes_word : (l : List ℕ) → Bytes l → bytes_of (length l) (word_of l) ≡ l
-bytes_word [] h = refl
-bytes_word (b ∷ l) h =
-    ap₂ {C = List ℕ} (λ x r. x ∷ r) (low b (word_of l) h.0) (ap (bytes_of (length l)) (rest b (word_of l) h.0) ∙ bytes_word l h.1)
-
--- bytes in the middle of a list
-pub run : (n : ℕ) (t : List ℕ) (i : ℕ) → n ≤ length (drop i t) → take n (drop i t) ≡ tabulate n (λ j. get_or t (i + j) 0)
-run n t i h = sym (tabulate-take n (drop i t) h) ∙ tabulate-ext n _ _ (λ j l. get_or-drop i t j 0)
 
 -- the bytes of a sum
 pub bytes-plus : (n x y : ℕ) → bytes_of n (bit_xor x y) ≡ plus (bytes_of n x) (bytes_of n y)
@@ -86,24 +62,6 @@ run-four t i =
     (ap (λ (l : List ℕ). take 8 (drop (i + 8) t) ++ l) (two 8 8 t (i + 16) (i + 24) (omega arith)) ∙ two 8 16 t (i + 8) (i + 16) (omega arith))
     ∙ two 8 24 t i (i + 8) refl
 
-cons : {a b : ℕ} {l m : List ℕ} → a ≡ b → l ≡ m → a ∷ l ≡ b ∷ m
-cons e f = ap₂ {C = List ℕ} (λ x r. x ∷ r) e f
-
--- eight bytes, put together
-pub word-run : (t : List ℕ) (i b0 b1 b2 b3 b4 b5 b6 b7 : ℕ) → i + 8 ≤ length t
-    → b0 ≡ get_or t i 0 → b1 ≡ get_or t (i + 1) 0 → b2 ≡ get_or t (i + 2) 0 → b3 ≡ get_or t (i + 3) 0
-    → b4 ≡ get_or t (i + 4) 0 → b5 ≡ get_or t (i + 5) 0 → b6 ≡ get_or t (i + 6) 0 → b7 ≡ get_or t (i + 7) 0
-    → b0 < 256 → b1 < 256 → b2 < 256 → b3 < 256 → b4 < 256 → b5 < 256 → b6 < 256 → b7 < 256
-    → bytes_of 8 (b0 + b1 * 256 + b2 * 65536 + b3 * 16777216 + b4 * 4294967296 + b5 * 1099511627776 + b6 * 281474976710656 + b7 * 72057594037927936)
-    ≡ take 8 (drop i t)
-word-run t i b0 b1 b2 b3 b4 b5 b6 b7 l e0 e1 e2 e3 e4 e5 e6 e7 h0 h1 h2 h3 h4 h5 h6 h7 =
-    let all : List ℕ = b0 ∷ b1 ∷ b2 ∷ b3 ∷ b4 ∷ b5 ∷ b6 ∷ b7 ∷ [] in
-    let sums : b0 + b1 * 256 + b2 * 65536 + b3 * 16777216 + b4 * 4294967296 + b5 * 1099511627776 + b6 * 281474976710656 + b7 * 72057594037927936 ≡ word_of all = omega arith in
-    let there : all ≡ tabulate 8 (λ j. get_or t (i + j) 0) =
-    cons (e0 ∙ ap (λ (k : ℕ). get_or t k 0) (sym (add-zero i))) (cons e1 (cons e2 (cons e3 (cons e4 (cons e5 (cons e6 (cons e7 refl))))))) in
-    ap (bytes_of 8) sums ∙ bytes_word all (h0, (h1, (h2, (h3, (h4, (h5, (h6, (h7, tt)))))))) ∙ there
-    ∙ sym (run 8 t i (omega (arith, length-drop i t)))
-
 -- four words that are runs of bytes
 pub row-run : (t : List ℕ) (i : ℕ) (x : Row) → bytes_of 8 x.a ≡ take 8 (drop i t) → bytes_of 8 x.b ≡ take 8 (drop (i + 8) t)
     → bytes_of 8 x.c ≡ take 8 (drop (i + 16) t) → bytes_of 8 x.d ≡ take 8 (drop (i + 24) t) → row_bytes x ≡ take 32 (drop i t)
@@ -114,22 +72,6 @@ row-run t i x ea eb ec ed =
 pub length-row : (x : Row) → length (row_bytes x) ≡ 32
 unfolding row_bytes
 length-row x = refl
-
--- the loop that puts the bytes of a word: a turn, and its end
-pub word-turn : (out : List ℕ) (x v j b : ℕ) → j < 8 → length out ≡ 8 → b ≡ v % 256 → take j out ++ bytes_of (8 - j) v ≡ bytes_of 8 x
-    → take (j + 1) (set out j b) ++ bytes_of (8 - (j + 1)) (v / 256) ≡ bytes_of 8 x
-word-turn out x v j b h l e inv =
-    let more : 8 - j ≡ suc (8 - (j + 1)) = omega arith in
-    ap₂ {C = List ℕ} (λ (p : List ℕ) (q : List ℕ). p ++ q)
-    (ap (λ (k : ℕ). take k (set out j b)) (add-one j) ∙ take-suc-set out j b (omega arith)) refl
-    ∙ append_assoc (take j out) (b ∷ []) (bytes_of (8 - (j + 1)) (v / 256))
-    ∙ ap (λ (q : List ℕ). take j out ++ q)
-    (ap (λ (y : ℕ). y ∷ bytes_of (8 - (j + 1)) (v / 256)) e ∙ sym (ap (λ (k : ℕ). bytes_of k v) more))
-    ∙ inv
-
-pub word_end : (out : List ℕ) (x v j : ℕ) → j ≡ 8 → length out ≡ 8 → take j out ++ bytes_of (8 - j) v ≡ bytes_of 8 x → out ≡ bytes_of 8 x
-word_end out x v j e l inv =
-    sym (ap (λ (k : ℕ). take k out ++ bytes_of (8 - k) v) e ∙ append-nil (take 8 out) ∙ take_all 8 out (omega arith)) ∙ inv
 
 -- ---- lists of one length put side by side
 

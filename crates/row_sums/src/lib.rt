@@ -16,33 +16,21 @@ pub struct Row {
     pub d: u64,
 }
 
-// A byte as a number.
-fn wide(b: u8) -> u64
-    ensures { (result ≡ b) × (result < 256) }
-{
-    b as u64
-}
-
 // Eight bytes from i on, the first the lowest.
 fn word_at(t: &[u8], i: usize) -> u64
     requires { i + 8 ≤ length t.now }
     ensures { bytes_of 8 result ≡ take 8 (drop i t.now) }
 {
-    let b0 = wide(t[i]);
-    let b1 = wide(t[i + 1]);
-    let b2 = wide(t[i + 2]);
-    let b3 = wide(t[i + 3]);
-    let b4 = wide(t[i + 4]);
-    let b5 = wide(t[i + 5]);
-    let b6 = wide(t[i + 6]);
-    let b7 = wide(t[i + 7]);
-    b0 + b1 * 256
-        + b2 * 65536
-        + b3 * 16777216
-        + b4 * 4294967296
-        + b5 * 1099511627776
-        + b6 * 281474976710656
-        + b7 * 72057594037927936
+    u64::from_le_bytes([
+        t[i],
+        t[i + 1],
+        t[i + 2],
+        t[i + 3],
+        t[i + 4],
+        t[i + 5],
+        t[i + 6],
+        t[i + 7],
+    ])
 }
 
 // 32 bytes from i on.
@@ -50,15 +38,11 @@ pub fn row_at(t: &[u8], i: usize) -> Row
     requires { i + 32 ≤ length t.now }
     ensures { row_bytes result ≡ take 32 (drop i t.now) }
 {
-    let a = word_at(t, i);
-    let b = word_at(t, i + 8);
-    let c = word_at(t, i + 16);
-    let d = word_at(t, i + 24);
     Row {
-        a: a,
-        b: b,
-        c: c,
-        d: d,
+        a: word_at(t, i),
+        b: word_at(t, i + 8),
+        c: word_at(t, i + 16),
+        d: word_at(t, i + 24),
     }
 }
 
@@ -79,13 +63,7 @@ fn put_word(x: u64, out: &mut [u8])
     requires { length out.old ≡ 8 }
     ensures { out.new ≡ bytes_of 8 x }
 {
-    let mut v = x;
-    let mut j: usize = 0;
-    while j < 8 {
-        out[j] = (v % 256) as u8;
-        v = v / 256;
-        j += 1;
-    }
+    out.copy_from_slice(&x.to_le_bytes());
 }
 
 // The bytes of a row.

@@ -20,13 +20,10 @@ pub fn row_sums(values: &[u8], rows: &[u8], out: &mut [u8])
     ensures { out.new ≡ row_sums (length out.old) values.now rows.now }
 {
     row_dots::clear(out);
-    let m = values.len();
-    let mut t: usize = 0;
-    while t < m {
+    for t in 0..values.len() {
         let at = t * 32;
         let end = at + 32;
         gf256_rows::add_scaled(values[t], &rows[at..end], out);
-        t += 1;
     }
 }
 
@@ -35,12 +32,9 @@ pub fn emit_turned(row: &[u8], n: usize, i: usize, out: &mut [u8])
     requires { (i < n) × (n ≤ 32) × (n ≤ length row.now) }
     ensures { out.new ≡ turned n i (length out.old) row.now }
 {
-    let m = out.len();
     let mut b = i;
-    let mut t: usize = 0;
-    while t < m {
+    for t in 0..out.len() {
         out[t] = row[b];
         b = lagrange_factors::next(b, n);
-        t += 1;
     }
 }

@@ -1,26 +1,21 @@
--- Whether the record of a repair may stand beside a store's, by its tests in their order; and SIZE by both records.
+-- Whether the record of a repair may stand beside a store's, by its tests in their order.
 -- Assumes nothing.
 use Prim.Native.Nat.{ℕ, ◌-◌, ◌*◌, ◌≤◌, ◌<◌}
 use mathlib.Core.Path.{◌≡◌, refl, sym, ap, ◌∙◌}
-use mathlib.Core.Bool.{Bool, true, false, not}
+use mathlib.Core.Bool.{Bool, true, false}
 use mathlib.Core.List.{List, [], ◌∷◌}
 use native.Mathlib.Omega.{arith}
 use lib.Dec.{ltb}
 use lib.ListN.{length, take}
 use Rattle.lists.specs.Tests.{alls}
 use lib.Seq.{length-take-le}
-use Rattle.lists.proofs.Tests.{is_false}
-use Rattle.sizes.specs.declared.Refusal.{Refusal}
-use Rattle.sizes.specs.declared.Refusal.TheVariants.{Size}
-use Rattle.sizes.specs.declared.Check.{Check}
-use Rattle.sizes.specs.declared.Check.TheVariants.{Pass, Refuse}
+use Rattle.lists.proofs.Tests.{true-false, is_false}
+use Rattle.std.specs.Prelude.{Ok, Err, is_err}
 use Rattle.sizes.specs.Sizing.{legal}
-use Rattle.sizes.specs.Refusals.{◌when◌, first, store_order}
+use Rattle.sizes.specs.Refusals.{first, store_order, Check}
 use Rattle.store_spec.specs.Record.{Record}
 use Rattle.store_spec.specs.Calls.{list_lines}
 use Rattle.beside_spec.specs.Running.{Running, fresh_of, packet_count, passed, sound_beside}
-use Rattle.line_checks.specs.Steps.{asked}
-use Rattle.board_lines.proofs.Chain.{then}
 use Rattle.list_tests.specs.Steps.{named}
 use Rattle.running_lists.proofs.Lists.{count-few}
 
@@ -60,19 +55,21 @@ module _ (s : Record) (p : Running) where
           ∷ []))
           (length-take-le p.count p.fresh fits))
 
-      pub lists-refused : {c : Check} {x : Refusal} → c ≡ arrays_pass s p.count p.fresh p.helpers p.stand_ins → c ≡ Refuse x → false ≡ sound_beside s p
-      lists-refused e h = sym (by_tests ∙ ap (λ (c : Check). alls (tests c)) (sym e ∙ h))
+      pub lists-refused : {c : Check} → c ≡ arrays_pass s p.count p.fresh p.helpers p.stand_ins → is_err c ≡ true → false ≡ sound_beside s p
+      lists-refused {c} e h = sym (by_tests ∙ ap (λ (c : Check). alls (tests c)) (sym e) ∙ go c h)
+        where
+          go : (c : Check) → is_err c ≡ true → alls (tests c) ≡ false
+          go (Ok tt) h = absurd (true-false h refl)
+          go (Err x) h = refl
 
-      pub lists-passed : {c : Check} → c ≡ arrays_pass s p.count p.fresh p.helpers p.stand_ins → c ≡ Pass
+      pub lists-passed : {c : Check} → c ≡ arrays_pass s p.count p.fresh p.helpers p.stand_ins → is_err c ≡ false
           → ltb p.carried (packet_count s.sizes p.count) ≡ sound_beside s p
-      lists-passed e h = sym (by_tests ∙ ap (λ (c : Check). alls (tests c)) (sym e ∙ h) ∙ alone (ltb p.carried (packet_count s.sizes p.count)))
+      lists-passed {c} e h = sym (by_tests ∙ ap (λ (c : Check). alls (tests c)) (sym e) ∙ go c h)
         where
           alone : (t : Bool) → alls (true ∷ t ∷ []) ≡ t
           alone true = refl
           alone false = refl
 
--- SIZE by one record and then by the other is SIZE by both
-pub two-sizes : (a b : Bool) → then (asked (Size when not a)) (asked (Size when not b)) ≡ asked (Size when not (alls (a ∷ b ∷ [])))
-two-sizes true true = refl
-two-sizes true false = refl
-two-sizes false b = refl
+          go : (c : Check) → is_err c ≡ false → alls (tests c) ≡ ltb p.carried (packet_count s.sizes p.count)
+          go (Ok tt) h = alone (ltb p.carried (packet_count s.sizes p.count))
+          go (Err x) h = absurd (true-false refl h)

@@ -15,7 +15,7 @@ ghost use Rattle.record.specs.Records.{record_of, running_in};
 ghost use Rattle.running_lists.specs.Steps.{Arrays};
 
 use record::{Kept, Running};
-use sizes::{Check, Refusal, Sizes};
+use sizes::{Refusal, Sizes};
 
 // The first refusal of the lists of t fresh boards that begin these arrays, on a record of these sizes and marks.
 fn check_arrays(
@@ -25,7 +25,7 @@ fn check_arrays(
     fresh: &[u8],
     helpers: &[u8],
     standins: &[u8],
-) -> Check
+) -> Result<(), Refusal>
     requires { Arrays sizes t fresh.now helpers.now standins.now }
     ensures { result ≡ first store_order (list_lines (named sizes marks.now) (take t fresh.now) (take (t * sizes.d) helpers.now) (take (t * (sizes.r - t)) standins.now)) }
 {
@@ -57,29 +57,27 @@ fn sound_beside(kept: Kept, running: Running) -> bool
     if sizes.r < t {
         return false;
     }
-    if let Check::Refuse(_) = check_arrays(sizes, &marks, t, &fresh, &helpers, &standins) {
+    if check_arrays(sizes, &marks, t, &fresh, &helpers, &standins).is_err() {
         return false;
     }
     running.carried < t * (sizes.d + sizes.r - 1)
 }
 
 // 1 SIZE, by the record of a repair.
-pub fn check_running(kept: Kept, running: Running) -> Check
+pub fn check_running(kept: Kept, running: Running) -> Result<(), Refusal>
     requires { legal kept.sizes ≡ true }
     ensures { result ≡ first store_order (Size when not (sound_beside (record_of kept) (running_in running)) ∷ []) }
 {
     if sound_beside(kept, running) {
-        return Check::Pass;
+        return Ok(());
     }
-    Check::Refuse(Refusal::Size)
+    Err(Refusal::Size)
 }
 
 // 1 SIZE, by either record.
-pub fn check_both(kept: Kept, running: Running) -> Check
+pub fn check_both(kept: Kept, running: Running) -> Result<(), Refusal>
     ensures { result ≡ asked (both_line (record_of kept) (running_in running)) }
 {
-    if let Check::Refuse(size) = store_lines::check_record(kept) {
-        return Check::Refuse(size);
-    }
+    store_lines::check_record(kept)?;
     check_running(kept, running)
 }

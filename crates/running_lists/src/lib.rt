@@ -14,22 +14,13 @@ ghost use Rattle.running_lists.specs.Steps.{Arrays};
 use record::{Kept, Running};
 use sizes::Sizes;
 
-// The board of a byte.
-fn board(byte: u8) -> usize
-    ensures { result ≡ byte }
-{
-    byte as usize
-}
-
 // Boards from their bytes.
 pub fn boards_of(bytes: &[u8], boards: &mut [usize])
     requires { length boards.old ≡ length bytes.now }
     ensures { boards.new ≡ bytes.now }
 {
-    let mut i: usize = 0;
-    while i < bytes.len() {
-        boards[i] = board(bytes[i]);
-        i += 1;
+    for i in 0..bytes.len() {
+        boards[i] = usize::from(bytes[i]);
     }
 }
 
@@ -50,11 +41,8 @@ pub fn bytes_of(boards: &[usize], bytes: &mut [u8])
     requires { below 256 boards.now ≡ true }
     ensures { bytes.new ≡ fit (length bytes.old) boards.now }
 {
-    let m = bytes.len();
-    let mut i: usize = 0;
-    while i < m {
+    for i in 0..bytes.len() {
         bytes[i] = byte_at(boards, i);
-        i += 1;
     }
 }
 

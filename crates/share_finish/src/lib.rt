@@ -60,8 +60,7 @@ fn share_by(
     ensures { out.new ≡ join stripes (λ s. stripe_by sizes i lanes rows.now stripes s packets.now exchanges.now) ++ drop (stripes * α sizes) out.old }
 {
     let a = 2 * sizes.d + sizes.r - 1;
-    let mut s: usize = 0;
-    while s < stripes {
+    for s in 0..stripes {
         let from = s * a;
         let to = from + a;
         stripe_by(
@@ -78,7 +77,6 @@ fn share_by(
             f,
             &mut out[from..to],
         );
-        s += 1;
     }
 }
 

@@ -2,11 +2,10 @@
 // one line with a refusal. It only reads and writes; the limit and the lines are decided by the crate `size_rows`.
 #![tactic(auto)]
 
-ghost use Rattle.std.specs.Prelude.{◌≡◌, false, ◌≤◌, length};
+ghost use Rattle.std.specs.Prelude.{◌≡◌, false, ◌≤◌, length, None};
 ghost use Rattle.size_list.specs.Combinations.{combinations, rows};
 
 use size_rows::Run;
-use size_steps::Place;
 
 // Writes a block, where all before it were written. Answers whether it was: where one was not, none behind it is.
 fn put_block(good: bool, block: &[u8]) -> bool
@@ -23,20 +22,18 @@ fn put_block(good: bool, block: &[u8]) -> bool
 fn print(most: usize) -> Run
     requires { (2 ≤ most) × (most ≤ 32) }
     ensures count_value { result.count ≡ length (rows (combinations most)) }
-    ensures place_value { result.place ≡ Place.End }
+    ensures place_value { result.place ≡ None }
 {
     let mut out = [0u8; 40960];
     let mut place = size_rows::first();
     let mut total: usize = 0;
     let mut good = true;
-    let mut t: usize = 0;
-    while t < 46 {
+    for _ in 0..46usize {
         let run = size_rows::fill(most, place, 1024, &mut out);
         let count = run.count;
         good = put_block(good, &out[..count]);
         place = run.place;
         total += count;
-        t += 1;
     }
     Run {
         count: total,

@@ -2,7 +2,7 @@
 
 #![tactic(auto)]
 
-ghost use Rattle.std.specs.Prelude.{◌≡◌, true, ◌++◌, ◌+◌, ◌*◌, ◌≤◌, length};
+ghost use Rattle.std.specs.Prelude.{◌≡◌, true, ◌++◌, ◌+◌, ◌*◌, ◌≤◌, length, Some};
 ghost use Rattle.sizes.specs.Sizing.{legal};
 ghost use Rattle.board_spec.specs.Text.{decimal};
 ghost use Rattle.text_lines.specs.Steps.{Wrote};
@@ -10,21 +10,20 @@ ghost use Rattle.size_list.specs.Combinations.{row, rows, limit};
 ghost use Rattle.size_steps.specs.Steps.{met, after, LegalPlace};
 
 use number_lines::Read;
-use size_steps::Place;
 use sizes::Sizes;
 
 // A run of lines: how many bytes they have, and the place behind them.
 #[derive(Clone, Copy)]
 pub struct Run {
     pub count: usize,
-    pub place: Place,
+    pub place: Option<Sizes>,
 }
 
 // The first combination.
-pub fn first() -> Place
-    ensures { result ≡ Place.At (record { n = 2; k = 1; d = 1; r = 1 }) }
+pub fn first() -> Option<Sizes>
+    ensures { result ≡ Some (record { n = 2; k = 1; d = 1; r = 1 }) }
 {
-    Place::At(Sizes {
+    Some(Sizes {
         n: 2,
         k: 1,
         d: 1,
@@ -57,13 +56,13 @@ fn put_row(z: Sizes, at: usize, out: &mut [u8]) -> usize
 }
 
 // One step: the line of a place, from at on, and the place behind it.
-fn step(most: usize, place: Place, at: usize, out: &mut [u8]) -> Run
+fn step(most: usize, place: Option<Sizes>, at: usize, out: &mut [u8]) -> Run
     requires { LegalPlace place × (at ≤ 163840) × (at + 40 ≤ length out.old) }
     ensures wrote { Wrote out.old at (rows (met most 1 place)) out.new result.count }
     ensures place_value { result.place ≡ after most 1 place }
 {
     match place {
-        Place::At(z) => {
+        Some(z) => {
             let end = put_row(z, at, out);
             let behind = size_steps::next(z, most);
             Run {
@@ -71,15 +70,15 @@ fn step(most: usize, place: Place, at: usize, out: &mut [u8]) -> Run
                 place: behind,
             }
         }
-        Place::End => Run {
+        None => Run {
             count: at,
-            place: Place::End,
+            place: None,
         },
     }
 }
 
 // The lines of a walk of so many steps from a place, to the beginning of out.
-pub fn fill(most: usize, place: Place, steps: usize, out: &mut [u8]) -> Run
+pub fn fill(most: usize, place: Option<Sizes>, steps: usize, out: &mut [u8]) -> Run
     requires { (most ≤ 32) × LegalPlace place × (steps ≤ 4096) × (steps * 40 ≤ length out.old) }
     ensures wrote { Wrote out.old 0 (rows (met most steps place)) out.new result.count }
     ensures place_value { result.place ≡ after most steps place }
@@ -88,11 +87,9 @@ pub fn fill(most: usize, place: Place, steps: usize, out: &mut [u8]) -> Run
         count: 0,
         place: place,
     };
-    let mut i: usize = 0;
-    while i < steps {
+    for _ in 0..steps {
         let here = run.place;
         run = step(most, here, run.count, out);
-        i += 1;
     }
     run
 }
@@ -101,18 +98,14 @@ pub fn fill(most: usize, place: Place, steps: usize, out: &mut [u8]) -> Run
 pub fn limit(input: &[u8]) -> usize
     ensures { result ≡ limit input.now }
 {
-    let m = input.len();
     let mut reader = number_lines::start();
-    let mut t: usize = 0;
-    while t < m {
-        let read = number_lines::feed(reader, b"", 33, input[t]);
-        t += 1;
-        match read {
+    for (t, b) in input.iter().enumerate() {
+        match number_lines::feed(reader, b"", 33, *b) {
             Read::More(next) => {
                 reader = next;
             }
             Read::Whole(v) => {
-                return size_steps::whole(v, m - t);
+                return size_steps::whole(v, input.len() - t - 1);
             }
             Read::Malformed => {
                 return 0;

@@ -20,30 +20,29 @@ use Rattle.sizes.proofs.Legal.{Legal, legal-facts, legal-yes}
 use Rattle.size_list.specs.Combinations.{each, combinations, row, rows}
 use Rattle.size_list.proofs.Levels.{one, of_d, of_k, of_n}
 use Rattle.size_list.proofs.Count.{count}
-use Rattle.size_steps.specs.declared.Place.{Place}
-use Rattle.size_steps.specs.declared.Place.TheVariants.{At, End}
-use Rattle.size_steps.specs.Steps.{from_n, from_k, from_d, next_of, met, after, LegalPlace}
+use Rattle.std.specs.Prelude.{Some, None}
+use Rattle.size_steps.specs.Steps.{Place, from_n, from_k, from_d, next_of, met, after, LegalPlace}
 use Rattle.size_steps.specs.Laws.{start, WalkLaws}
 
 -- ---- in two parts
 
-ended : (N m : ℕ) → met N m End ≡ []
+ended : (N m : ℕ) → met N m None ≡ []
 ended N zero = refl
 ended N (suc m) = refl
 
-stays : (N m : ℕ) → after N m End ≡ End
+stays : (N m : ℕ) → after N m None ≡ None
 stays N zero = refl
 stays N (suc m) = refl
 
 pub met-add : (N a b : ℕ) (p : Place) → met N (a + b) p ≡ met N a p ++ met N b (after N a p)
 met-add N zero b p = ap (λ (m : ℕ). met N m p) (zero-add b)
-met-add N (suc a) b (At z) = ap (λ (m : ℕ). met N m (At z)) (suc-add a b) ∙ ap (λ (l : List Sizes). z ∷ l) (met-add N a b (next_of N z))
-met-add N (suc a) b End = ended N (suc a + b) ∙ sym (ended N b)
+met-add N (suc a) b (Some z) = ap (λ (m : ℕ). met N m (Some z)) (suc-add a b) ∙ ap (λ (l : List Sizes). z ∷ l) (met-add N a b (next_of N z))
+met-add N (suc a) b None = ended N (suc a + b) ∙ sym (ended N b)
 
 pub after-add : (N a b : ℕ) (p : Place) → after N (a + b) p ≡ after N b (after N a p)
 after-add N zero b p = ap (λ (m : ℕ). after N m p) (zero-add b)
-after-add N (suc a) b (At z) = ap (λ (m : ℕ). after N m (At z)) (suc-add a b) ∙ after-add N a b (next_of N z)
-after-add N (suc a) b End = stays N (suc a + b) ∙ sym (stays N b)
+after-add N (suc a) b (Some z) = ap (λ (m : ℕ). after N m (Some z)) (suc-add a b) ∙ after-add N a b (next_of N z)
+after-add N (suc a) b None = stays N (suc a + b) ∙ sym (stays N b)
 
 -- ---- places stay legal
 
@@ -78,8 +77,8 @@ module _ (N : ℕ) (few : N ≤ 32) where
 
   pub legal-after : (m : ℕ) (p : Place) → LegalPlace p → LegalPlace (after N m p)
   legal-after zero p h = h
-  legal-after (suc m) (At z) h = legal-after m (next_of N z) (legal-next z (legal-facts z h))
-  legal-after (suc m) End h = tt
+  legal-after (suc m) (Some z) h = legal-after m (next_of N z) (legal-next z (legal-facts z h))
+  legal-after (suc m) None h = tt
 
 -- ---- lines
 
@@ -88,7 +87,7 @@ rows_append [] ys = refl
 rows_append (x ∷ xs) ys = ap (λ (l : List ℕ). row x ++ l) (rows_append xs ys) ∙ sym (append_assoc (row x) (rows xs) (rows ys))
 
 -- one line at a time
-pub one_line : (N : ℕ) (z : Sizes) → rows (met N 1 (At z)) ≡ row z
+pub one_line : (N : ℕ) (z : Sizes) → rows (met N 1 (Some z)) ≡ row z
 one_line N z = append-nil (row z)
 
 pub rows_next : (N i : ℕ) (p : Place) → rows (met N (i + 1) p) ≡ rows (met N i p) ++ rows (met N 1 (after N i p))
@@ -99,7 +98,7 @@ rows_next N i p = ap rows (met-add N i 1 p) ∙ rows_append (met N i p) (met N 1
 -- from a place a walk meets these, and comes to another place
 abbrev Leads : ℕ → Place → List Sizes → Place → Type 0
 Leads N p [] q = p ≡ q
-Leads N p (z ∷ l) q = (p ≡ At z) × Leads N (next_of N z) l q
+Leads N p (z ∷ l) q = (p ≡ Some z) × Leads N (next_of N z) l q
 
 leads-append : (N : ℕ) (p q s : Place) (l m : List Sizes) → Leads N p l q → Leads N q m s → Leads N p (l ++ m) s
 leads-append N p q s [] m h g = subst (λ (x : Place). Leads N x m s) (sym h) g
@@ -116,7 +115,7 @@ leads-each N from a (suc m) f h =
 module _ (N : ℕ) where
   -- the place at r of n, k and d, or behind the last r
   abbrev from_r : ℕ → ℕ → ℕ → ℕ → Place
-  from_r n k d r = pick (leb (d + r) n) (At (record { n = n; k = k; d = d; r = r })) (from_d N n k (d + 1))
+  from_r n k d r = pick (leb (d + r) n) (Some (record { n = n; k = k; d = d; r = r })) (from_d N n k (d + 1))
 
   leads-r : (n k d r : ℕ) → d + r ≤ n → Leads N (from_r n k d r) (one n k d r) (from_r n k d (suc r))
   unfolding next_of
@@ -151,20 +150,20 @@ module _ (N : ℕ) where
       subst (λ (p : Place). Leads N p (of_n n) (from_n N (suc n))) a
       (subst (λ (p : Place). Leads N (from_k N n 1) (of_n n) p) b (leads-each N (from_k N n) 1 (n - 1) (of_k n) (λ k l u. leads-k n k (omega arith))))
 
-  leads-all : 2 ≤ N → Leads N start (combinations N) End
+  leads-all : 2 ≤ N → Leads N start (combinations N) None
   unfolding combinations
   leads-all h =
       let a : from_n N 2 ≡ start = rw (le-leb 2 N h) in
-      let b : from_n N (2 + (N - 1)) ≡ End = rw (lt-leb (2 + (N - 1)) N (omega arith)) in
-      subst (λ (p : Place). Leads N p (combinations N) End) a
+      let b : from_n N (2 + (N - 1)) ≡ None = rw (lt-leb (2 + (N - 1)) N (omega arith)) in
+      subst (λ (p : Place). Leads N p (combinations N) None) a
       (subst (λ (p : Place). Leads N (from_n N 2) (combinations N) p) b (leads-each N (from_n N) 2 (N - 1) of_n (λ n l u. leads-n n l (omega arith))))
 
   -- so many steps meet all
-  leads-met : (l : List Sizes) (p : Place) (m : ℕ) → Leads N p l End → length l ≤ m → (met N m p ≡ l) × (after N m p ≡ End)
+  leads-met : (l : List Sizes) (p : Place) (m : ℕ) → Leads N p l None → length l ≤ m → (met N m p ≡ l) × (after N m p ≡ None)
   leads-met [] p m e h = (ap (met N m) e ∙ ended N m, ap (after N m) e ∙ stays N m)
   leads-met (z ∷ l) p zero e h = absurd (omega arith)
   leads-met (z ∷ l) p (suc m) e h =
-      let r : (met N m (next_of N z) ≡ l) × (after N m (next_of N z) ≡ End) = leads-met l (next_of N z) m e.1 (omega arith) in
+      let r : (met N m (next_of N z) ≡ l) × (after N m (next_of N z) ≡ None) = leads-met l (next_of N z) m e.1 (omega arith) in
       (ap (met N (suc m)) e.0 ∙ ap (λ (x : List Sizes). z ∷ x) r.0, ap (after N (suc m)) e.0 ∙ r.1)
 
 -- ---- the laws
@@ -172,7 +171,7 @@ module _ (N : ℕ) where
 all-met : (N m : ℕ) → 2 ≤ N → length (combinations N) ≤ m → met N m start ≡ combinations N
 all-met N m h g = (leads-met N (combinations N) start m (leads-all N h) g).0
 
-pub all-ends : (N m : ℕ) → 2 ≤ N → length (combinations N) ≤ m → after N m start ≡ End
+pub all-ends : (N m : ℕ) → 2 ≤ N → length (combinations N) ≤ m → after N m start ≡ None
 all-ends N m h g = (leads-met N (combinations N) start m (leads-all N h) g).1
 
 in_blocks : (N w m : ℕ) → join m (λ t. rows (met N w (after N (t * w) start))) ≡ rows (met N (m * w) start)

@@ -8,20 +8,13 @@ ghost use Rattle.size_steps.specs.Steps.{next_of, from_d, whole_limit};
 
 use sizes::Sizes;
 
-// A place in the list: at a combination, or behind the last.
-#[derive(Clone, Copy)]
-pub enum Place {
-    At(Sizes),
-    End,
-}
-
 // The first combination of n, k and d; where there is none, that of the next k, or of the next n up to the limit.
-fn from_helpers(n: usize, k: usize, d: usize, most: usize) -> Place
+fn from_helpers(n: usize, k: usize, d: usize, most: usize) -> Option<Sizes>
     requires { (n ≤ 32) × (k ≤ 32) }
     ensures { result ≡ from_d most n k d }
 {
     if d < n {
-        return Place::At(Sizes {
+        return Some(Sizes {
             n: n,
             k: k,
             d: d,
@@ -29,7 +22,7 @@ fn from_helpers(n: usize, k: usize, d: usize, most: usize) -> Place
         });
     }
     if k + 1 < n {
-        return Place::At(Sizes {
+        return Some(Sizes {
             n: n,
             k: k + 1,
             d: k + 1,
@@ -37,23 +30,23 @@ fn from_helpers(n: usize, k: usize, d: usize, most: usize) -> Place
         });
     }
     if n < most {
-        return Place::At(Sizes {
+        return Some(Sizes {
             n: n + 1,
             k: 1,
             d: 1,
             r: 1,
         });
     }
-    Place::End
+    None
 }
 
 // The place behind a combination.
-pub fn next(z: Sizes, most: usize) -> Place
+pub fn next(z: Sizes, most: usize) -> Option<Sizes>
     requires { legal z ≡ true }
     ensures { result ≡ next_of most z }
 {
     if z.d + z.r < z.n {
-        return Place::At(Sizes {
+        return Some(Sizes {
             n: z.n,
             k: z.k,
             d: z.d,

@@ -13,9 +13,8 @@ use Rattle.lists.specs.Tests.{pick, every}
 use Rattle.lists.proofs.Tests.{both}
 use Rattle.sizes.specs.declared.Refusal.{Refusal}
 use Rattle.sizes.specs.declared.Refusal.TheVariants.{Size, Area, Long, Count, Node, Repeat, Short, Empty, Down, Disagree, Text, Mixed, Serving, Range, Busy, Idle}
-use Rattle.sizes.specs.declared.Answer.{Answer}
-use Rattle.sizes.specs.declared.Answer.TheVariants.{Done, Refused}
-use Rattle.sizes.specs.Refusals.{number, Said, said, Line, applies_in}
+use Rattle.std.specs.Prelude.{Ok, Err}
+use Rattle.sizes.specs.Refusals.{number, Said, said, Line, applies_in, Answer}
 use Rattle.sizes.specs.Laws.{SizesAndRefusals}
 use Rattle.sizes.proofs.Legal.{legal-facts, legal-yes, stripes-enough, stripes-least, stripes-none, share-bytes, stripe-bytes, B-most}
 use Rattle.sizes.proofs.Lines.{first-clear, clear_first, first-refuse, refuse-first}
@@ -74,10 +73,10 @@ pub never-eleven : (x : Refusal) → number x ≢ 11
 never-eleven x = eqb-false (number x) 11 (not-true (eqb (number x) 11) (each-passes (λ y. not (eqb (number y) 11)) refl x))
 
 answers-differ : (a b : Answer) → said a ≡ said b → a ≡ b
-answers-differ (Done v) (Done w) e = ap Done (ap (λ (s : Said). s.reported) e)
-answers-differ (Done v) (Refused y) e = absurd (omega (arith, number-low y, ap (λ (s : Said). s.refusal) e))
-answers-differ (Refused x) (Done w) e = absurd (omega (arith, number-low x, ap (λ (s : Said). s.refusal) e))
-answers-differ (Refused x) (Refused y) e = ap Refused (numbers-differ x y (ap (λ (s : Said). s.refusal) e))
+answers-differ (Ok v) (Ok w) e = ap Ok (ap (λ (s : Said). s.reported) e)
+answers-differ (Ok v) (Err y) e = absurd (omega (arith, number-low y, ap (λ (s : Said). s.refusal) e))
+answers-differ (Err x) (Ok w) e = absurd (omega (arith, number-low x, ap (λ (s : Said). s.refusal) e))
+answers-differ (Err x) (Err y) e = ap Err (numbers-differ x y (ap (λ (s : Said). s.refusal) e))
 
 applies-at : (before after : List Line) (l : Line) → All (λ m. m.refusal ≢ l.refusal) before → applies_in (before ++ (l ∷ after)) l.refusal ≡ l.applies
 applies-at [] after l h = rw (eq-eqb (number l.refusal) (number l.refusal) refl) refl

@@ -13,15 +13,14 @@ use Rattle.lists.specs.Lists.{All}
 use Rattle.lists.specs.Tests.{pick, alls, given}
 use Rattle.lists.proofs.Tests.{true-false, hold-alls, alls-hold, is_false}
 use Rattle.sizes.specs.Laws.{First}
-use Rattle.sizes.specs.Refusals.{Line, applies_in, first}
-use Rattle.sizes.specs.declared.Check.{Check}
-use Rattle.sizes.specs.declared.Check.TheVariants.{Pass, Refuse}
+use Rattle.sizes.specs.Refusals.{Line, applies_in, first, Check}
+use Rattle.std.specs.Prelude.{Ok, Err}
 use Rattle.sizes.specs.declared.Refusal.{Refusal}
 
-pub refuse-pass : {x : Refusal} {c : Check} → c ≡ Refuse x → c ≡ Pass → ⊥
+pub refuse-pass : {x : Refusal} {c : Check} → c ≡ Err x → c ≡ Ok tt → ⊥
 refuse-pass p q = let z : ◌≡◌ {A = ℕ} 0 1 = cc in omega arith
 
-pick-pass : (b : Bool) (x : Refusal) (c : Check) → pick b (Refuse x) c ≡ Pass → (b ≡ false) × (c ≡ Pass)
+pick-pass : (b : Bool) (x : Refusal) (c : Check) → pick b (Err x) c ≡ Ok tt → (b ≡ false) × (c ≡ Ok tt)
 pick-pass true x c h = absurd (refuse-pass refl h)
 pick-pass false x c h = (refl, h)
 
@@ -30,19 +29,19 @@ module _ (lines : List Line) where
   abbrev pub Clear : List Refusal → Type 0
   Clear order = All (λ y. applies_in lines y ≡ false) order
 
-  pub first-clear : (order : List Refusal) → first order lines ≡ Pass → Clear order
+  pub first-clear : (order : List Refusal) → first order lines ≡ Ok tt → Clear order
   first-clear [] h = tt
   first-clear (x ∷ order) h = let p = pick-pass (applies_in lines x) x (first order lines) h in (p.0, first-clear order p.1)
 
-  pub clear_first : (order : List Refusal) → Clear order → first order lines ≡ Pass
+  pub clear_first : (order : List Refusal) → Clear order → first order lines ≡ Ok tt
   clear_first [] h = refl
   clear_first (x ∷ order) h = rw h.0 (clear_first order h.1)
 
-  pub first-refuse : (order : List Refusal) (x : Refusal) → first order lines ≡ Refuse x → First order lines x
+  pub first-refuse : (order : List Refusal) (x : Refusal) → first order lines ≡ Err x → First order lines x
   first-refuse [] x h = absurd (refuse-pass h refl)
   first-refuse (y ∷ order) x h = go (applies_in lines y) refl h (first-refuse order x)
     where
-      go : (t : Bool) → applies_in lines y ≡ t → pick t (Refuse y) (first order lines) ≡ Refuse x → (first order lines ≡ Refuse x → First order lines x)
+      go : (t : Bool) → applies_in lines y ≡ t → pick t (Err y) (first order lines) ≡ Err x → (first order lines ≡ Err x → First order lines x)
           → First (y ∷ order) lines x
       go true e k ih =
           let q : y ≡ x = cc in
@@ -57,10 +56,10 @@ module _ (lines : List Line) where
             applies = r.applies;
           }
 
-  pub refuse-first : (order : List Refusal) (x : Refusal) → First order lines x → first order lines ≡ Refuse x
+  pub refuse-first : (order : List Refusal) (x : Refusal) → First order lines x → first order lines ≡ Err x
   refuse-first order x f = ap (λ (o : List Refusal). first o lines) f.place ∙ go f.before f.none_before
     where
-      go : (before : List Refusal) → Clear before → first (before ++ (x ∷ f.after)) lines ≡ Refuse x
+      go : (before : List Refusal) → Clear before → first (before ++ (x ∷ f.after)) lines ≡ Err x
       go [] h = rw f.applies refl
       go (y ∷ before) h = rw h.0 (go before h.1)
 
@@ -69,8 +68,8 @@ module _ (lines : List Line) where
   one-or-none order = go (first order lines) refl
     where
       go : (c : Check) → first order lines ≡ c → ((x : Refusal) × First order lines x) ⊎ Clear order
-      go Pass e = inr (first-clear order e)
-      go (Refuse x) e = inl (x, first-refuse order x e)
+      go (Ok tt) e = inr (first-clear order e)
+      go (Err x) e = inl (x, first-refuse order x e)
 
 -- ---- what a line's test says
 

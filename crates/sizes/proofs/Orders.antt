@@ -11,7 +11,7 @@ use Rattle.lists.specs.Tests.{pick}
 use Rattle.lists.proofs.Alls.{all-imp}
 use Rattle.lists.proofs.Tests.{true-false}
 use Rattle.sizes.specs.Refusals.{Line, applies_in, first, number}
-use Rattle.sizes.specs.declared.Check.TheVariants.{Pass, Refuse}
+use Rattle.std.specs.Prelude.{Ok, Err}
 use Rattle.sizes.specs.declared.Refusal.{Refusal}
 use Rattle.sizes.proofs.Laws.{numbers-differ}
 use Rattle.sizes.proofs.Lines.{Clear, first-clear, clear_first}
@@ -46,12 +46,12 @@ all-at P (y ∷ order) x s h = go (eqb (number y) (number x)) refl s (λ k. all-
 pub none-off : (lines : List Line) (order : List Refusal) → Clear lines order → (x : Refusal) → stands order x ≡ true → applies_in lines x ≡ false
 none-off lines order h x s = all-at (λ y. applies_in lines y ≡ false) order x s h
 
-pub clear-off : (lines : List Line) (order : List Refusal) → first order lines ≡ Pass → (x : Refusal) → stands order x ≡ true → applies_in lines x ≡ false
+pub clear-off : (lines : List Line) (order : List Refusal) → first order lines ≡ Ok tt → (x : Refusal) → stands order x ≡ true → applies_in lines x ≡ false
 clear-off lines order h = none-off lines order (first-clear lines order h)
 
 -- another passes with it where each line that is off in the one is off in the other
 pub pass-too : (l m : List Line) (order : List Refusal) → ((x : Refusal) → applies_in l x ≡ false → applies_in m x ≡ false)
-    → first order l ≡ Pass → first order m ≡ Pass
+    → first order l ≡ Ok tt → first order m ≡ Ok tt
 pass-too l m order h p =
     clear_first m order (all-imp (λ x. applies_in l x ≡ false) (λ x. applies_in m x ≡ false) h order (first-clear l order p))
 
@@ -67,7 +67,7 @@ off-in (l ∷ lines) x h = go (eqb (number l.refusal) (number x)) (off-in lines 
     go true k = h.0
     go false k = k
 
-pub off-pass : (lines : List Line) (order : List Refusal) → Off lines → first order lines ≡ Pass
+pub off-pass : (lines : List Line) (order : List Refusal) → Off lines → first order lines ≡ Ok tt
 off-pass lines [] h = refl
 off-pass lines (x ∷ order) h = rw (off-in lines x h) (off-pass lines order h)
 
@@ -85,15 +85,15 @@ module _ (lines : List Line) (x : Refusal) where
       go (inl e) = absurd (eqb-false (number y) (number x) n (ap number e))
       go (inr f) = f
 
-  none_pass : (order : List Refusal) → applies_in lines x ≡ false → Only order → first order lines ≡ Pass
+  none_pass : (order : List Refusal) → applies_in lines x ≡ false → Only order → first order lines ≡ Ok tt
   none_pass [] f h = refl
   none_pass (y ∷ order) f h = go h.0 (none_pass order f h.1)
     where
-      go : (y ≡ x) ⊎ (applies_in lines y ≡ false) → first order lines ≡ Pass → first (y ∷ order) lines ≡ Pass
+      go : (y ≡ x) ⊎ (applies_in lines y ≡ false) → first order lines ≡ Ok tt → first (y ∷ order) lines ≡ Ok tt
       go (inl e) ih = let g : applies_in lines y ≡ false = ap (applies_in lines) e ∙ f in rw g ih
       go (inr g) ih = rw g ih
 
-  pub only-first : (order : List Refusal) → stands order x ≡ true → Only order → first order lines ≡ pick (applies_in lines x) (Refuse x) Pass
+  pub only-first : (order : List Refusal) → stands order x ≡ true → Only order → first order lines ≡ pick (applies_in lines x) (Err x) (Ok tt)
   only-first [] s h = absurd (true-false refl (sym s))
   only-first (y ∷ order) s h = go (applies_in lines x) refl h.0 (λ k. only-first order k h.1)
     where
@@ -102,10 +102,10 @@ module _ (lines : List Line) (x : Refusal) where
       here false q k g p = k
 
       go : (t : Bool) → applies_in lines x ≡ t → (y ≡ x) ⊎ (applies_in lines y ≡ false)
-          → (stands order x ≡ true → first order lines ≡ pick (applies_in lines x) (Refuse x) Pass) → first (y ∷ order) lines ≡ pick t (Refuse x) Pass
+          → (stands order x ≡ true → first order lines ≡ pick (applies_in lines x) (Err x) (Ok tt)) → first (y ∷ order) lines ≡ pick t (Err x) (Ok tt)
       go false p o ih = none_pass (y ∷ order) p h
-      go true p (inl e) ih = let g : applies_in lines y ≡ true = ap (applies_in lines) e ∙ p in rw g (ap Refuse e)
-      go true p (inr g) ih = rw g (ih (here (eqb (number y) (number x)) refl s g p) ∙ ap (λ (t : Bool). pick t (Refuse x) Pass) p)
+      go true p (inl e) ih = let g : applies_in lines y ≡ true = ap (applies_in lines) e ∙ p in rw g (ap Err e)
+      go true p (inr g) ih = rw g (ih (here (eqb (number y) (number x)) refl s g p) ∙ ap (λ (t : Bool). pick t (Err x) (Ok tt)) p)
 
 -- ---- two lists of lines
 
@@ -139,7 +139,7 @@ module _ (l m : List Line) where
           by y false false q e = k y e
 
       go : (t u : Bool) → t ≡ u → applies_in m z ≡ u → (applies_in m z ≡ false → first order l ≡ first order m)
-          → pick t (Refuse z) (first order l) ≡ pick u (Refuse z) (first order m)
+          → pick t (Err z) (first order l) ≡ pick u (Err z) (first order m)
       go true true e q ih = refl
       go false false e q ih = ih q
       go true false e q ih = absurd (true-false refl e)

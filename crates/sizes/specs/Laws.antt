@@ -1,15 +1,12 @@
 -- What holds of sizes and refusals, in propositions: proofs/Laws.antt has `laws`.
 -- Assumes nothing.
-use Rattle.std.specs.Prelude.{◌≡◌, Bool, true, false, ◌≢◌, ◌↔◌, List, [], ◌∷◌, ◌++◌, map, ℕ, ◌+◌, ◌*◌, ◌≤◌}
+use Rattle.std.specs.Prelude.{◌≡◌, Bool, true, false, ◌≢◌, ◌↔◌, List, [], ◌∷◌, ◌++◌, map, ℕ, ◌+◌, ◌*◌, ◌≤◌, Ok, Err}
 use Rattle.lists.specs.Lists.{All}
 use Rattle.sizes.specs.declared.Sizes.{Sizes}
 use Rattle.sizes.specs.declared.Refusal.{Refusal}
 use Rattle.sizes.specs.declared.Refusal.TheVariants.{Size, Area, Long, Count, Node, Repeat, Short, Empty, Down, Disagree, Text, Mixed, Serving, Range, Busy, Idle}
-use Rattle.sizes.specs.declared.Check.TheVariants.{Pass, Refuse}
-use Rattle.sizes.specs.declared.Answer.{Answer}
-use Rattle.sizes.specs.declared.Answer.TheVariants.{Done, Refused}
 use Rattle.sizes.specs.Sizing.{max_boards, max_stripes, legal, α, B, stripes}
-use Rattle.sizes.specs.Refusals.{number, said, Line, ◌when◌, applies_in, first, store_order, board_order}
+use Rattle.sizes.specs.Refusals.{number, said, Line, ◌when◌, applies_in, first, store_order, board_order, Answer}
 
 -- x is the first of the order whose line holds
 pub record First (order : List Refusal) (lines : List Line) (x : Refusal) : Type 0 where
@@ -37,8 +34,8 @@ pub record SizesAndRefusals : Type 0 where
       map number (Size ∷ Area ∷ Long ∷ Count ∷ Node ∷ Repeat ∷ Short ∷ Empty ∷ Down ∷ Disagree ∷ Text ∷ Mixed ∷ Serving ∷ Range ∷ Busy ∷ Idle ∷ [])
       ≡ 1 ∷ 2 ∷ 3 ∷ 4 ∷ 5 ∷ 6 ∷ 7 ∷ 8 ∷ 9 ∷ 10 ∷ 12 ∷ 13 ∷ 14 ∷ 15 ∷ 16 ∷ 17 ∷ []
   -- accepted: no refusal, and the number reported; refused: its number, and nothing reported
-  pub done-says : (v : ℕ) → said (Done v) ≡ record { refusal = 0; reported = v }
-  pub refused_says : (x : Refusal) → said (Refused x) ≡ record { refusal = number x; reported = 0 }
+  pub done-says : (v : ℕ) → said (Ok v) ≡ record { refusal = 0; reported = v }
+  pub refused_says : (x : Refusal) → said (Err x) ≡ record { refusal = number x; reported = 0 }
   -- two refusals never share a number, nor two answers what they say
   pub numbers-differ : (x y : Refusal) → number x ≡ number y → x ≡ y
   -- request A.5: "the number is never given again"
@@ -52,5 +49,5 @@ pub record SizesAndRefusals : Type 0 where
   pub store-order : map number store_order ≡ 1 ∷ 2 ∷ 3 ∷ 8 ∷ 16 ∷ 17 ∷ 15 ∷ 4 ∷ 5 ∷ 6 ∷ 14 ∷ 9 ∷ 7 ∷ 10 ∷ []
   pub board-order : map number board_order ≡ 12 ∷ 1 ∷ 3 ∷ 13 ∷ 4 ∷ 5 ∷ 6 ∷ 2 ∷ 7 ∷ 10 ∷ []
   -- "The first that applies is given." "A number is given only where its line holds; otherwise the call does its work."
-  pub refuse-is : (order : List Refusal) (lines : List Line) (x : Refusal) → (first order lines ≡ Refuse x) ↔ First order lines x
-  pub pass-is : (order : List Refusal) (lines : List Line) → (first order lines ≡ Pass) ↔ All (λ y. applies_in lines y ≡ false) order
+  pub refuse-is : (order : List Refusal) (lines : List Line) (x : Refusal) → (first order lines ≡ Err x) ↔ First order lines x
+  pub pass-is : (order : List Refusal) (lines : List Line) → (first order lines ≡ Ok tt) ↔ All (λ y. applies_in lines y ≡ false) order

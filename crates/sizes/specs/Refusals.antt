@@ -1,13 +1,17 @@
 -- Document 01, 'Who causes a refusal': the numbers, the lines, and which of them is given.
 -- Assumes nothing.
-use Rattle.std.specs.Prelude.{Bool, false, List, [], ◌∷◌, ℕ, eqb}
+use Rattle.std.specs.Prelude.{Bool, false, List, [], ◌∷◌, ℕ, eqb, Result, Ok, Err}
 use Rattle.lists.specs.Tests.{pick}
 use Rattle.sizes.specs.declared.Refusal.{Refusal}
 use Rattle.sizes.specs.declared.Refusal.TheVariants.{Size, Area, Long, Count, Node, Repeat, Short, Empty, Down, Disagree, Text, Mixed, Serving, Range, Busy, Idle}
-use Rattle.sizes.specs.declared.Check.{Check}
-use Rattle.sizes.specs.declared.Check.TheVariants.{Pass, Refuse}
-use Rattle.sizes.specs.declared.Answer.{Answer}
-use Rattle.sizes.specs.declared.Answer.TheVariants.{Done, Refused}
+
+-- what a check answers: nothing is wrong, or the refusal to give
+abbrev pub Check : Type 0
+Check = Result (Unit {0}) Refusal
+
+-- what a call answers: it is done, with the number that it reports, or it is refused
+abbrev pub Answer : Type 0
+Answer = Result ℕ Refusal
 
 -- 11 is not used: request A.5 took POINTS, "two equal points in one interpolation", out
 abbrev pub number : Refusal → ℕ
@@ -34,8 +38,8 @@ pub record Said : Type 0 where
   pub reported : ℕ
 
 abbrev pub said : Answer → Said
-said (Done v) = record { refusal = 0; reported = v }
-said (Refused x) = record { refusal = number x; reported = 0 }
+said (Ok v) = record { refusal = 0; reported = v }
+said (Err x) = record { refusal = number x; reported = 0 }
 
 -- a line of the list: the refusal, and whether it applies
 infix 90 ◌when◌
@@ -53,8 +57,8 @@ applies_in (l ∷ lines) x = pick (eqb (number l.refusal) (number x)) l.applies 
 
 -- "The first that applies is given."
 abbrev pub first : List Refusal → List Line → Check
-first [] lines = Pass
-first (x ∷ order) lines = pick (applies_in lines x) (Refuse x) (first order lines)
+first [] lines = Ok tt
+first (x ∷ order) lines = pick (applies_in lines x) (Err x) (first order lines)
 
 -- "Store: 1, 2, 3, 8, 4, 5, 6, 9, 7, 10"; request A.3: "14 SERVING, .. after 6 and before 9"; request A.6: "15 RANGE, .. after 8; the read's own
 -- checks follow"; request A.8: "16 BUSY, .. after 8 and before 15; 17 IDLE, .. at the same place"

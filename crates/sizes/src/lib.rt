@@ -8,7 +8,7 @@ ghost use Rattle.sizes.specs.Sizing.{legal, α, B, stripes};
 ghost use Rattle.sizes.specs.Refusals.{number};
 
 // Document 01's refusals and those of the requests, in the order of their numbers; 11 is not used, and is never given again.
-#[derive(Clone, Copy)]
+#[derive(Clone, Copy, Debug, PartialEq, Eq)]
 pub enum Refusal {
     Size,
     Area,
@@ -26,20 +26,6 @@ pub enum Refusal {
     Range,
     Busy,
     Idle,
-}
-
-// What a check answers: nothing is wrong, or the refusal to give.
-#[derive(Clone, Copy)]
-pub enum Check {
-    Pass,
-    Refuse(Refusal),
-}
-
-// What a call answers: it is done, with the number that it reports, or it is refused.
-#[derive(Clone, Copy)]
-pub enum Answer {
-    Done(usize),
-    Refused(Refusal),
 }
 
 // n boards, k read, d helpers, r fresh boards.

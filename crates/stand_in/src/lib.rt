@@ -40,12 +40,10 @@ fn second_bytes(d: usize, w: usize, gf: &[u8], stripes: usize, held: &[u8], out:
     ensures { out.new ≡ tabulate stripes (λ s. dot_of gf.now (take 1 (piece (w + d - 1) s held.now) ++ drop w (piece (w + d - 1) s held.now))) ++ drop stripes out.old }
 {
     let a = w + d - 1;
-    let mut s: usize = 0;
-    while s < stripes {
+    for s in 0..stripes {
         let from = s * a;
         let to = from + a;
         out[s] = second_byte(d, w, gf, &held[from..to]);
-        s += 1;
     }
 }
 

@@ -43,13 +43,10 @@ fn read_byte<R: Read>(reader: &mut R) -> Got {
 pub fn read_input<R: Read>(reader: &mut R, input: &mut [u8]) -> usize
     ensures { result ≤ length input.new }
 {
-    let mut done: usize = 0;
-    while done < input.len() {
-        let got = read_byte(reader);
-        match got {
+    for done in 0..input.len() {
+        match read_byte(reader) {
             Got::Byte(b) => {
                 input[done] = b;
-                done += 1;
             }
             Got::End => {
                 return done;
@@ -59,5 +56,5 @@ pub fn read_input<R: Read>(reader: &mut R, input: &mut [u8]) -> usize
             }
         }
     }
-    done
+    input.len()
 }

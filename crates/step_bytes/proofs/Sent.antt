@@ -64,7 +64,3 @@ gathered z S s e packets stood exchanges got a b c he hs ls lg ea eb ec =
     behind z.d (z.d + e) (length got - 1) got a b c la (lb ∙ omega arith) (lc ∙ omega (arith, lg, he)) (omega arith) (omega (arith, lg, he))
     ∙ ap₂ {C = List ℕ} (λ x y. x ++ y) ea
     (ap₂ {C = List ℕ} (λ x y. x ++ y) eb ec ∙ sent-both z S s e (z.r - 1 - e) stood exchanges hs ls (omega (arith, he)))
-
--- a turn's byte
-pub sent-fits : (u m S s : ℕ) → u < m → s < S → u * S + s < m * S
-sent-fits u m S s h k = omega (arith, part_end u S m h, k)

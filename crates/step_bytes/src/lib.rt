@@ -15,12 +15,10 @@ fn sent_bytes(stripes: usize, s: usize, m: usize, sent: &[u8], out: &mut [u8])
     requires { (s < stripes) × (stripes ≤ 4096) × (m ≤ 32) × (length sent.now ≡ m * stripes) × (length out.old ≡ m) }
     ensures { out.new ≡ tabulate m (λ u. get_or sent.now (u * stripes + s) 0) }
 {
-    let mut u: usize = 0;
-    while u < m {
+    for u in 0..m {
         let at = u * stripes + s;
         let b = sent[at];
         out[u] = b;
-        u += 1;
     }
 }
 

@@ -20,12 +20,9 @@ fn bytes_at(sizes: Sizes, ff: &[u8], stripes: usize, from: usize, at: usize, pac
     ensures { packets.new ≡ put packets.old at (tabulate stripes (λ s. dot_of ff.now (received sizes stripes 0 s (take (sizes.d * (2 * stripes)) (drop from packets.old))))) }
 {
     let to = from + sizes.d * (2 * stripes);
-    let mut s: usize = 0;
-    while s < stripes {
+    for s in 0..stripes {
         let b = stripe_exchange::exchange_byte(sizes, ff, stripes, s, &packets[from..to]);
-        let place = at + s;
-        packets[place] = b;
-        s += 1;
+        packets[at + s] = b;
     }
 }
 

@@ -73,13 +73,10 @@ fn finish_all(
     requires { (legal sizes ≡ true) × (length points.now ≡ 32) × DifferentPoints sizes points.now × (inverses.now ≡ tabulate 256 inverse) × Listed sizes fresh.now helpers.now standins.now × (capacity ≤ 4096) × (stripes ≤ capacity) × (length packets.now ≡ stripes * length fresh.now * α sizes) × (length area.old ≡ sizes.n * (capacity * α sizes)) }
     ensures { area.new ≡ puts (λ a. get_or fresh.now a 0 * (capacity * α sizes)) (share_at sizes points.now stripes fresh.now helpers.now standins.now packets.now) (length fresh.now) area.old }
 {
-    let t = fresh.len();
-    let mut a: usize = 0;
-    while a < t {
+    for a in 0..fresh.len() {
         finish_board(
             sizes, points, inverses, capacity, stripes, fresh, helpers, standins, packets, a, area,
         );
-        a += 1;
     }
 }
 

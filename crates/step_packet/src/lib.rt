@@ -93,15 +93,12 @@ fn carry_all(
 {
     let h = helpers.len();
     let end = from + count;
-    let mut q = from;
-    while q < end {
-        let next = q + 1;
+    for q in from..end {
         let at = place(h, stripes, q);
         carry_packet(
             sizes, points, inverses, capacity, stripes, fresh, helpers, standins, area, q, at,
             packets,
         );
-        q = next;
     }
 }
 

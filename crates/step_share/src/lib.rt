@@ -52,13 +52,11 @@ fn share_by(
     ensures { out.new ≡ join stripes (λ s. stripe_by sizes i lanes rows.now stripes s packets.now (stood.now ++ exchanges.now)) }
 {
     let a = 2 * sizes.d + sizes.r - 1;
-    let mut s: usize = 0;
-    while s < stripes {
+    for s in 0..stripes {
         let from = s * a;
         let to = from + a;
         step_bytes::hear(sizes, stripes, s, e, packets, stood, exchanges, firsts, got);
         finish_stripe(sizes, i, rows, firsts, got, g, f, &mut out[from..to]);
-        s += 1;
     }
 }
 

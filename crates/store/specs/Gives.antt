@@ -1,10 +1,9 @@
 -- What demand 3 says after a list of calls, of an accepted repair and of the end of a started one, said of what the methods gave. proofs/Gives.antt has `code_gives`.
 -- Assumes nothing.
-use Rattle.std.specs.Prelude.{◌≡◌, true, List, [], ◌∷◌, ◌++◌, ℕ, ◌+◌, ◌-◌, ◌*◌, ◌≤◌, length}
+use Rattle.std.specs.Prelude.{◌≡◌, true, List, [], ◌∷◌, ◌++◌, ℕ, ◌+◌, ◌-◌, ◌*◌, ◌≤◌, length, Ok}
 use Rattle.std.proofs.Math.Option.{some}
 use Rattle.lists.specs.Tests.{every, among, different}
 use Rattle.lists.specs.Lists.{over}
-use Rattle.sizes.specs.declared.Answer.TheVariants.{Done}
 use Rattle.sizes.specs.Refusals.{said}
 use Rattle.board_spec.specs.Calls.{file_of}
 use Rattle.store_spec.specs.Record.{stripe_count, held}
@@ -67,7 +66,7 @@ pub record CodeGives : Type 0 where
       → (allowance : ℕ) → r.left ≤ allowance
       → (g : Given Records) → Meets x lent (step allowance lying) g
       → let o = repair_both (kept_in x) idle lent r.fresh r.helpers r.stand_ins in
-      (o.answer.refusal ≡ 0) × (g.answer ≡ said (Done r.left)) × (kept_in g.handed ≡ o.handed) × (beside_in g.handed ≡ o.running) × (g.area ≡ o.area)
+      (o.answer.refusal ≡ 0) × (g.answer ≡ said (Ok r.left)) × (kept_in g.handed ≡ o.handed) × (beside_in g.handed ≡ o.running) × (g.area ≡ o.area)
       × (g.packets ≡ contents (repair_packets (kept_in x) lent r.fresh r.helpers r.stand_ins))
   -- an accepted repair, over any records and any area: the bytes moved, and what each fresh board holds in the area that it left
   pub moved : (x : Records) (area fresh helpers stand_ins : List ℕ) (g : Given Records) → Meets x area (repair fresh helpers stand_ins) g → g.answer.refusal ≡ 0

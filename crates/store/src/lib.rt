@@ -10,7 +10,7 @@ ghost use Rattle.store_work.specs.Handing.{turned_down};
 ghost use Rattle.store.specs.Handing.{record_in, outcome_both};
 
 use record::{Kept, Running};
-use sizes::{Answer, Check, Refusal, Sizes};
+use sizes::{Refusal, Sizes};
 
 // A store is its record: the sizes, a point for each board, the capacity in stripes, whether a file was accepted, its length, and a mark for each
 // board: in service or not.
@@ -24,14 +24,14 @@ pub struct Store {
 pub struct Handed {
     pub store: Store,
     pub running: Running,
-    pub answer: Answer,
+    pub answer: Result<usize, Refusal>,
 }
 
 // A refused call hands both records back as they came.
 fn refuse(kept: Store, running: Running, x: Refusal) -> Handed
     ensures { (area output packets : List ℕ) → outcome_both result area output packets ≡ turned_down (record_in kept) (running_in running) area output packets x }
 {
-    let answer = Answer::Refused(x);
+    let answer = Err(x);
     Handed {
         store: kept,
         running: running,
@@ -44,7 +44,7 @@ impl Store {
     pub fn set_up(self, running: Running, sizes: Sizes, points: [u8; 32], capacity: usize) -> Handed
         ensures { outcome_both result [] [] [] ≡ set_up_both (record_in self) (running_in running) sizes points capacity }
     {
-        if let Check::Refuse(x) = check_set_up_lose::check_set_up(sizes, points, capacity) {
+        if let Err(x) = check_set_up_lose::check_set_up(sizes, points, capacity) {
             return refuse(self, running, x);
         }
         let next = record::new_kept(sizes, points, capacity);
@@ -52,7 +52,7 @@ impl Store {
         Handed {
             store: Store { record: next },
             running: idle,
-            answer: Answer::Done(0),
+            answer: Ok(0),
         }
     }
 
@@ -61,7 +61,7 @@ impl Store {
         ensures { outcome_both result area.new [] [] ≡ write_both (record_in self) (running_in running) area.old file.now }
     {
         let kept = self.record;
-        if let Check::Refuse(x) = check_write::check_write(kept, running, area.len(), file) {
+        if let Err(x) = check_write::check_write(kept, running, area.len(), file) {
             return refuse(self, running, x);
         }
         let sizes = kept.sizes;
@@ -76,7 +76,7 @@ impl Store {
         Handed {
             store: Store { record: next },
             running: running,
-            answer: Answer::Done(0),
+            answer: Ok(0),
         }
     }
 
@@ -85,7 +85,7 @@ impl Store {
         ensures { (area : List ℕ) → outcome_both result area [] [] ≡ lose_both (record_in self) (running_in running) area board }
     {
         let kept = self.record;
-        if let Check::Refuse(x) = check_set_up_lose::check_lose(kept, running, board) {
+        if let Err(x) = check_set_up_lose::check_lose(kept, running, board) {
             return refuse(self, running, x);
         }
         let beside = running_lists::lost_beside(kept, running, board);
@@ -94,7 +94,7 @@ impl Store {
         Handed {
             store: Store { record: next },
             running: beside,
-            answer: Answer::Done(0),
+            answer: Ok(0),
         }
     }
 
@@ -111,7 +111,7 @@ impl Store {
         ensures { outcome_both result area.new [] [] ≡ repair_both (record_in self) (running_in running) area.old fresh.now helpers.now standins.now }
     {
         let kept = self.record;
-        if let Check::Refuse(x) = check_repair::check_repair(
+        if let Err(x) = check_repair::check_repair(
             kept,
             running,
             area.len(),
@@ -129,7 +129,7 @@ impl Store {
         Handed {
             store: Store { record: next },
             running: running,
-            answer: Answer::Done(moved),
+            answer: Ok(moved),
         }
     }
 
@@ -138,19 +138,19 @@ impl Store {
         ensures { outcome_both result area.now out.new [] ≡ read_both (record_in self) (running_in running) area.now boards.now out.old }
     {
         let kept = self.record;
-        if let Check::Refuse(x) = check_read::check_read(kept, running, area.len(), boards, out) {
+        if let Err(x) = check_read::check_read(kept, running, area.len(), boards, out) {
             return refuse(self, running, x);
         }
         let mut tables = [0u8; 49152];
         store_work::fill_tables(kept, boards, &mut tables);
-        if let Check::Refuse(disagree) = store_work::check_agrees(kept, boards, area, &tables) {
+        if let Err(disagree) = store_work::check_agrees(kept, boards, area, &tables) {
             return refuse(self, running, disagree);
         }
         store_work::read_file(kept, boards, area, &tables, out);
         Handed {
             store: self,
             running: running,
-            answer: Answer::Done(0),
+            answer: Ok(0),
         }
     }
 
@@ -166,13 +166,7 @@ impl Store {
         ensures { outcome_both result area.now out.new [] ≡ careful_both (record_in self) (running_in running) area.now boards.now out.old }
     {
         let kept = self.record;
-        if let Check::Refuse(x) = check_careful::check_careful(
-            kept,
-            running,
-            area.len(),
-            boards,
-            out,
-        ) {
+        if let Err(x) = check_careful::check_careful(kept, running, area.len(), boards, out) {
             return refuse(self, running, x);
         }
         let tried = careful_tries::read_file(kept, boards, area, out);
@@ -182,7 +176,7 @@ impl Store {
         Handed {
             store: self,
             running: running,
-            answer: Answer::Done(tried.odd),
+            answer: Ok(tried.odd),
         }
     }
 
@@ -199,7 +193,7 @@ impl Store {
         ensures { outcome_both result area.new [] [] ≡ edit_both (record_in self) (running_in running) area.old offset bytes.now boards.now }
     {
         let kept = self.record;
-        if let Check::Refuse(x) = check_edit::check_edit(
+        if let Err(x) = check_edit::check_edit(
             kept,
             running,
             area.len(),
@@ -211,14 +205,14 @@ impl Store {
         }
         let mut tables = [0u8; 49152];
         store_work::fill_tables(kept, boards, &mut tables);
-        if let Check::Refuse(disagree) = store_work::check_agrees(kept, boards, area, &tables) {
+        if let Err(disagree) = store_work::check_agrees(kept, boards, area, &tables) {
             return refuse(self, running, disagree);
         }
         store_work::edit_boards(kept, offset, bytes, boards, &tables, area);
         Handed {
             store: self,
             running: running,
-            answer: Answer::Done(0),
+            answer: Ok(0),
         }
     }
 
@@ -236,7 +230,7 @@ impl Store {
         ensures { outcome_both result area.new [] [] ≡ move_both (record_in self) (running_in running) area.old board point helpers.now partners.now }
     {
         let kept = self.record;
-        if let Check::Refuse(x) = check_move::check_move(
+        if let Err(x) = check_move::check_move(
             kept,
             running,
             area.len(),
@@ -253,7 +247,7 @@ impl Store {
         Handed {
             store: Store { record: next },
             running: running,
-            answer: Answer::Done(moved),
+            answer: Ok(moved),
         }
     }
 
@@ -269,7 +263,7 @@ impl Store {
         ensures { outcome_both result area.now [] [] ≡ start_call (record_in self) (running_in running) area.now fresh.now helpers.now standins.now }
     {
         let kept = self.record;
-        if let Check::Refuse(x) = check_repair::check_repair(
+        if let Err(x) = check_repair::check_repair(
             kept,
             running,
             area.len(),
@@ -283,7 +277,7 @@ impl Store {
         Handed {
             store: self,
             running: next,
-            answer: Answer::Done(0),
+            answer: Ok(0),
         }
     }
 
@@ -299,7 +293,7 @@ impl Store {
         ensures { outcome_both result area.new [] packets.new ≡ step_call (record_in self) (running_in running) area.old packets.old allowance }
     {
         let kept = self.record;
-        if let Check::Refuse(x) = check_step::check_step(kept, running, area.len(), packets.len()) {
+        if let Err(x) = check_step::check_step(kept, running, area.len(), packets.len()) {
             return refuse(self, running, x);
         }
         let stepped = store_step::step(kept, running, area, packets, allowance);
@@ -308,7 +302,7 @@ impl Store {
         Handed {
             store: Store { record: next },
             running: after,
-            answer: Answer::Done(stepped.count),
+            answer: Ok(stepped.count),
         }
     }
 }

@@ -4,7 +4,7 @@ use mathlib.Core.Path.{◌≡◌, ap, ap₂, ◌∙◌}
 use mathlib.Core.List.{List, map}
 use Prim.Native.Nat.{ℕ, ◌+◌, ◌-◌, ◌*◌, ◌/◌}
 use lib.ListN.{length}
-use Rattle.sizes.specs.declared.Check.TheVariants.{Pass}
+use Rattle.std.specs.Prelude.{Ok}
 use Rattle.sizes.specs.Refusals.{first, store_order}
 use Rattle.sizes.specs.Sizing.{B, stripes}
 use Rattle.sizes.proofs.Legal.{Legal}
@@ -18,7 +18,7 @@ use Rattle.edit_laws.proofs.Edited.{edited}
 use Rattle.edit_stripes.proofs.Reach.{first-from, stop-high, stop-low}
 
 module _ (s : Record) (legal : Legal s.sizes) (area : List ℕ) (offset : ℕ) (bytes boards : List ℕ)
-    (pass : first store_order (edit_lines s area offset bytes boards) ≡ Pass) where
+    (pass : first store_order (edit_lines s area offset bytes boards) ≡ Ok tt) where
   abbrev reached : List ℕ → ℕ → List ℕ → List ℕ
   reached starts part on =
       stripes_edited s.sizes s.points boards starts part on offset bytes (offset / B s.sizes)

@@ -16,7 +16,7 @@ ghost use Rattle.decode_stripe.specs.Steps.{Asked};
 ghost use Rattle.decode_setup.specs.Steps.{Made};
 ghost use Rattle.edit_laws.specs.Steps.{serving_of};
 
-use sizes::{Check, Sizes};
+use sizes::Sizes;
 
 // One more where a board is in service.
 fn counted(m: usize, on: bool) -> usize
@@ -32,11 +32,9 @@ fn boards_on(n: usize, marks: &[bool], out: &mut [usize]) -> usize
     ensures { (result ≤ n) × (take result out.new ≡ serving_of n marks.now) }
 {
     let mut m: usize = 0;
-    let mut i: usize = 0;
-    while i < n {
+    for i in 0..n {
         out[m] = i;
         m = counted(m, marks[i]);
-        i += 1;
     }
     m
 }
@@ -55,7 +53,7 @@ pub fn edit_shares(
     area: &mut [u8],
 )
     requires { Asked sizes points.now boards.now × (length points.now ≡ 32) × (length marks.now ≡ 32) × (capacity ≤ 4096) × (offset + length bytes.now ≤ capacity * B sizes) × (length area.old ≡ sizes.n * (capacity * α sizes)) × Made sizes points.now boards.now tables.now }
-    ensures { (len : ℕ) → let s = record_of sizes points.now capacity true len marks.now in first store_order (edit_lines s area.old offset bytes.now boards.now) ≡ Check.Pass → area.new ≡ put_shares s (edited_share s area.old (file_of (file_held s area.old boards.now)) offset bytes.now) (serving s) area.old }
+    ensures { (len : ℕ) → let s = record_of sizes points.now capacity true len marks.now in first store_order (edit_lines s area.old offset bytes.now boards.now) ≡ Ok tt → area.new ≡ put_shares s (edited_share s area.old (file_of (file_held s area.old boards.now)) offset bytes.now) (serving s) area.old }
 {
     let k = sizes.k;
     let part = capacity * sizes.share_len();

@@ -51,19 +51,15 @@ fn hold_stripes(
         second: true,
         at: from,
     };
-    let mut t: usize = 0;
-    while t < stripes {
+    for t in 0..stripes {
         let s = stripe_holds::stripe_after(from, t, stripes);
         held = stripe_holds::hold_stripe(
             held, sizes, points, boards, starts, tables, powers, s, p, first, q, second, area, u,
             rows,
         );
-        if !held.first {
-            if !held.second {
-                return held;
-            }
+        if !held.first && !held.second {
+            return held;
         }
-        t += 1;
     }
     held
 }

@@ -17,18 +17,16 @@ ghost use Rattle.record.specs.Records.{record_of};
 ghost use Rattle.store_lines.specs.Steps.{Bounded};
 
 use record::Kept;
-use sizes::{Check, Refusal, Sizes};
+use sizes::{Refusal, Sizes};
 
 // Whether some mark at place `from` or after it is on.
 pub fn some_on(marks: &[bool], from: usize) -> bool
     ensures { not result ≡ all_off (drop from marks.now) }
 {
-    let mut i = from;
-    while i < marks.len() {
+    for i in from..marks.len() {
         if marks[i] {
             return true;
         }
-        i += 1;
     }
     false
 }
@@ -69,68 +67,68 @@ fn sound_in(kept: Kept) -> bool
 }
 
 // 1 SIZE of a record.
-pub fn check_record(kept: Kept) -> Check
+pub fn check_record(kept: Kept) -> Result<(), Refusal>
     ensures { result ≡ asked (record_line (record_of kept)) }
 {
     let sizes = kept.sizes;
     if sizes.legal() {
         if sound_in(kept) {
-            return Check::Pass;
+            return Ok(());
         }
     }
-    Check::Refuse(Refusal::Size)
+    Err(Refusal::Size)
 }
 
 // 3 LONG, the store.
-pub fn check_fits(sizes: Sizes, capacity: usize, got: usize) -> Check
+pub fn check_fits(sizes: Sizes, capacity: usize, got: usize) -> Result<(), Refusal>
     requires { Bounded sizes capacity }
     ensures { result ≡ asked (Long when ltb (capacity * B sizes) got) }
 {
     if capacity * sizes.stripe_len() < got {
-        Check::Refuse(Refusal::Long)
+        Err(Refusal::Long)
     } else {
-        Check::Pass
+        Ok(())
     }
 }
 
 // 5 NODE of two lists.
-pub fn check_two_lists(sizes: Sizes, boards: &[usize], others: &[usize]) -> Check
+pub fn check_two_lists(sizes: Sizes, boards: &[usize], others: &[usize]) -> Result<(), Refusal>
     ensures { result ≡ asked (node_line sizes (boards.now ++ others.now)) }
 {
     if line_tests::below(sizes.n, boards) {
         return board_lines::check_nodes(sizes, others);
     }
-    Check::Refuse(Refusal::Node)
+    Err(Refusal::Node)
 }
 
 // 8 EMPTY.
-pub fn check_written(written: bool) -> Check
+pub fn check_written(written: bool) -> Result<(), Refusal>
     ensures { result ≡ asked (Empty when not written) }
 {
     if !written {
-        return Check::Refuse(Refusal::Empty);
+        return Err(Refusal::Empty);
     }
-    Check::Pass
+    Ok(())
 }
 
 // 16 BUSY.
-pub fn check_busy(running: bool) -> Check
+pub fn check_busy(running: bool) -> Result<(), Refusal>
     ensures { result ≡ asked (Busy when running) }
 {
     if running {
-        return Check::Refuse(Refusal::Busy);
+        return Err(Refusal::Busy);
     }
-    Check::Pass
+    Ok(())
 }
 
 // 17 IDLE.
-pub fn check_idle(running: bool) -> Check
+pub fn check_idle(running: bool) -> Result<(), Refusal>
     ensures { result ≡ asked (Idle when not running) }
 {
     if !running {
-        return Check::Refuse(Refusal::Idle);
+        return Err(Refusal::Idle);
     }
-    Check::Pass
+    Ok(())
 }
 
 // The mark of a board; off where it has none.
@@ -148,11 +146,8 @@ pub fn mark_of(marks: &[bool], board: usize) -> bool
 pub fn all_on(marks: &[bool], boards: &[usize]) -> bool
     ensures { result ≡ every (λ i. get_or marks.now i false) boards.now }
 {
-    let mut t: usize = 0;
-    while t < boards.len() {
-        if mark_of(marks, boards[t]) {
-            t += 1;
-        } else {
+    for board in boards {
+        if !mark_of(marks, *board) {
             return false;
         }
     }
@@ -160,13 +155,13 @@ pub fn all_on(marks: &[bool], boards: &[usize]) -> bool
 }
 
 // 9 DOWN.
-pub fn check_service(marks: &[bool], boards: &[usize]) -> Check
+pub fn check_service(marks: &[bool], boards: &[usize]) -> Result<(), Refusal>
     ensures { result ≡ asked (Down when not (every (λ i. get_or marks.now i false) boards.now)) }
 {
     if all_on(marks, boards) {
-        Check::Pass
+        Ok(())
     } else {
-        Check::Refuse(Refusal::Down)
+        Err(Refusal::Down)
     }
 }
 
@@ -183,10 +178,8 @@ pub fn first_on(n: usize) -> [bool; 32]
 fn turn_on(n: usize, marks: &mut [bool])
     ensures { marks.new ≡ tabulate (length marks.old) (λ i. ltb i n) }
 {
-    let mut i: usize = 0;
-    while i < marks.len() {
+    for i in 0..marks.len() {
         marks[i] = i < n;
-        i += 1;
     }
 }
 
@@ -195,10 +188,7 @@ pub fn marks_on(boards: &[usize], marks: &mut [bool])
     requires { below (length marks.old) boards.now ≡ true }
     ensures { marks.new ≡ turn_on boards.now marks.old }
 {
-    let mut t: usize = 0;
-    while t < boards.len() {
-        let b = boards[t];
-        marks[b] = true;
-        t += 1;
+    for board in boards {
+        marks[*board] = true;
     }
 }

@@ -9,10 +9,9 @@ use borrow.Author.Tests.{le-leb, eq-eqb}
 use Rattle.lists.specs.Lists.{join, piece, put}
 use Rattle.lists.proofs.Boards.{below_all}
 use Rattle.lists.proofs.Tests.{hold-alls}
-use Rattle.sizes.specs.declared.Check.{Check}
-use Rattle.sizes.specs.declared.Check.TheVariants.{Pass}
+use Rattle.std.specs.Prelude.{Ok}
 use Rattle.sizes.specs.Sizing.{α}
-use Rattle.sizes.specs.Refusals.{first, store_order}
+use Rattle.sizes.specs.Refusals.{first, store_order, Check}
 use Rattle.sizes.proofs.Orders.{◌also◌, off-pass}
 use Rattle.store_spec.specs.Record.{Record, with_marks, stripe_count, part_len, put_shares}
 use Rattle.store_spec.specs.Calls.{settle, refused, list_lines, repair_lines, repair_done, repair_call}
@@ -26,7 +25,7 @@ use Rattle.repair_seam.proofs.Repaired.{named_of, run_of, repaired}
 
 -- a repair of which these facts hold passes
 repairs-pass : (s : Record) (m : ℕ) (fresh helpers stand_ins : List ℕ) → Repairs s m fresh helpers stand_ins
-    → first store_order (repair_lines s m fresh helpers stand_ins) ≡ Pass
+    → first store_order (repair_lines s m fresh helpers stand_ins) ≡ Ok tt
 unfolding repair_lines list_lines
 repairs-pass s m fresh helpers stand_ins f =
     off-pass (repair_lines s m fresh helpers stand_ins) store_order

@@ -3,8 +3,7 @@
 
 #![tactic(auto)]
 
-ghost use Rattle.std.specs.Prelude.{◌≡◌, [], ◌∷◌, length};
-ghost use Rattle.sizes.specs.declared.Check.TheVariants.{Pass};
+ghost use Rattle.std.specs.Prelude.{◌≡◌, [], ◌∷◌, length, Ok};
 ghost use Rattle.sizes.specs.Refusals.{first, store_order};
 ghost use Rattle.store_spec.specs.Record.{stripe_count, put_shares};
 ghost use Rattle.store_spec.specs.Move.{afresh_area, moved_share, move_lines};
@@ -22,7 +21,7 @@ pub fn move_share(
     partners: &[usize],
     area: &mut [u8],
 )
-    requires { (first store_order (move_lines (record_of kept) (length area.old) board point helpers.now partners.now) ≡ Pass) × (stripes ≡ stripe_count (record_of kept)) }
+    requires { (first store_order (move_lines (record_of kept) (length area.old) board point helpers.now partners.now) ≡ Ok tt) × (stripes ≡ stripe_count (record_of kept)) }
     ensures { area.new ≡ put_shares (record_of kept) (moved_share (record_of kept) area.old board point helpers.now partners.now) (board ∷ []) (afresh_area (record_of kept) area.old board point) }
 {
     let mut points = kept.points;

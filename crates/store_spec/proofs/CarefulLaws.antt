@@ -14,9 +14,8 @@ use Rattle.lists.specs.Lists.{All, over, Bytes}
 use Rattle.lists.specs.Tests.{pick, alls, below, among, different, every, given}
 use Rattle.lists.proofs.Boards.{all-below, below_all}
 use Rattle.lists.proofs.Tests.{not-no, is_false, alls-hold, true-false}
-use Rattle.sizes.specs.Refusals.{◌when◌, first, store_order}
-use Rattle.sizes.specs.declared.Check.{Check}
-use Rattle.sizes.specs.declared.Check.TheVariants.{Refuse, Pass}
+use Rattle.sizes.specs.Refusals.{◌when◌, first, store_order, Check}
+use Rattle.std.specs.Prelude.{Ok, Err}
 use Rattle.sizes.specs.declared.Refusal.TheVariants.{Size, Area, Count, Node, Repeat, Short, Empty, Down, Disagree}
 use Rattle.sizes.proofs.Orders.{Only, only-off, only-first}
 use Rattle.mbcr.specs.Demand2.{Named}
@@ -37,7 +36,7 @@ outcome s area boards (some file) output = accepted (odd_report (odd s area file
 outcome s area boards none output = refused s area output Disagree
 
 found : (s : Record) (area boards output : List ℕ) (o : Option (List ℕ))
-    → settle (pick (not (given o)) (Refuse Disagree) Pass) (refused s area output)
+    → settle (pick (not (given o)) (Err Disagree) (Ok tt)) (refused s area output)
     (accepted (odd_report (odd s area (file_of o) boards)) s area (over (file_of o) output))
     ≡ outcome s area boards o output
 found s area boards output (some file) = refl
@@ -144,7 +143,7 @@ two-reads s area boards file i ok m ba named l b e n a t u ht hu d file' et eu =
     one-shows s area g m boards named file l b i e n a file' x.0 x.1 (both-leave (Holds s area file') t u boards d x.2 y.2)
 
 counts : (a b c d e f g h i : Bool) → a ≡ false → b ≡ false → c ≡ false → d ≡ true
-    → first store_order (Size when a ∷ Area when b ∷ Empty when c ∷ Count when d ∷ Node when e ∷ Repeat when f ∷ Down when g ∷ Short when h ∷ Disagree when i ∷ []) ≡ Refuse Count
+    → first store_order (Size when a ∷ Area when b ∷ Empty when c ∷ Count when d ∷ Node when e ∷ Repeat when f ∷ Down when g ∷ Short when h ∷ Disagree when i ∷ []) ≡ Err Count
 counts true b c d e f g h i p q r t = absurd (true-false refl p)
 counts false true c d e f g h i p q r t = absurd (true-false refl q)
 counts false false true d e f g h i p q r t = absurd (true-false refl r)

@@ -15,10 +15,9 @@ use Rattle.lists.proofs.Alls.{all_left}
 use Rattle.lists.proofs.Boards.{below_all, all_among, among-head, among-tail}
 use Rattle.lists.proofs.Pieces.{piece-join}
 use Rattle.lists.proofs.Tests.{true-false, is_false, alls-hold, hold-alls, every-all}
-use Rattle.sizes.specs.Refusals.{Line, first, store_order}
+use Rattle.sizes.specs.Refusals.{Line, first, store_order, Check}
 use Rattle.sizes.specs.Sizing.{legal, max_stripes, B, α, stripes}
-use Rattle.sizes.specs.declared.Check.{Check}
-use Rattle.sizes.specs.declared.Check.TheVariants.{Pass, Refuse}
+use Rattle.std.specs.Prelude.{Ok, Err}
 use Rattle.sizes.specs.declared.Refusal.{Refusal}
 use Rattle.sizes.specs.declared.Sizes.{Sizes}
 use Rattle.sizes.proofs.Legal.{legal-facts}
@@ -145,7 +144,7 @@ unfolding piece
 held_place s area i t h = held-stripe (α s.sizes) s.capacity (stripe_count s) area i t h
 
 module _ (s : Record) (area file : List ℕ) (h : (write_call s area file).answer.refusal ≡ 0) where
-  write-pass : first store_order (write_lines s (length area) file) ≡ Pass
+  write-pass : first store_order (write_lines s (length area) file) ≡ Ok tt
   unfolding write_call
   write-pass = passes (first store_order (write_lines s (length area) file)) s area [] (write_done s area file) h
 
@@ -350,8 +349,8 @@ careful-lines s area boards output =
 -- what holds of a refusal and of the work holds of the call
 either : (P : StoreOutcome → Type 0) (check : Check) (s : Record) (area output : List ℕ) (done : StoreOutcome)
     → ((x : Refusal) → P (refused s area output x)) → P done → P (settle check (refused s area output) done)
-either P Pass s area output done f g = g
-either P (Refuse x) s area output done f g = f x
+either P (Ok tt) s area output done f g = g
+either P (Err x) s area output done f g = f x
 
 abbrev Reports0 : StoreOutcome → Type 0
 Reports0 o = o.answer.reported ≡ 0

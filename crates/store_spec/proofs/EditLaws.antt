@@ -19,7 +19,7 @@ use Rattle.lists.proofs.Put.{length-put, byte-before, byte-after, part_end}
 use Rattle.lists.proofs.Tests.{true-false}
 use Rattle.gf256.specs.Field.{add}
 use Rattle.sizes.specs.Refusals.{first, store_order}
-use Rattle.sizes.specs.declared.Check.TheVariants.{Pass}
+use Rattle.std.specs.Prelude.{Ok}
 use Rattle.sizes.specs.Sizing.{α, B, stripes}
 use Rattle.sizes.proofs.Legal.{legal-facts}
 use Rattle.polynomial.specs.Polynomial.{plus}
@@ -47,7 +47,7 @@ found (some f) e = refl
 found none e = absurd (true-false e refl)
 
 module _ (s : Record) (area : List ℕ) (offset : ℕ) (bytes boards : List ℕ) (ok : (edit_call s area offset bytes boards).answer.refusal ≡ 0) where
-  pass : first store_order (edit_lines s area offset bytes boards) ≡ Pass
+  pass : first store_order (edit_lines s area offset bytes boards) ≡ Ok tt
   unfolding edit_call
   pass = passes (first store_order (edit_lines s area offset bytes boards)) s area [] (edit_done s area offset bytes boards) ok
 

@@ -12,9 +12,8 @@ use borrow.Author.Tests.{eqb-true}
 use Rattle.lists.specs.Lists.{All, over, Bytes}
 use Rattle.lists.specs.Tests.{pick, given}
 use Rattle.lists.proofs.Tests.{not-no}
-use Rattle.sizes.specs.Refusals.{store_order}
-use Rattle.sizes.specs.declared.Check.{Check}
-use Rattle.sizes.specs.declared.Check.TheVariants.{Refuse, Pass}
+use Rattle.sizes.specs.Refusals.{store_order, Check}
+use Rattle.std.specs.Prelude.{Ok, Err}
 use Rattle.sizes.specs.declared.Refusal.TheVariants.{Size, Area, Count, Node, Repeat, Empty, Down, Disagree}
 use Rattle.sizes.proofs.Orders.{Only, only-off, only-first}
 use Rattle.mbcr.specs.Demand2.{Named}
@@ -32,7 +31,7 @@ outcome s area (some file) output = accepted 0 s area (over file output)
 outcome s area none output = refused s area output Disagree
 
 found : (s : Record) (area output : List ℕ) (o : Option (List ℕ))
-    → settle (pick (not (given o)) (Refuse Disagree) Pass) (refused s area output) (accepted 0 s area (over (file_of o) output))
+    → settle (pick (not (given o)) (Err Disagree) (Ok tt)) (refused s area output) (accepted 0 s area (over (file_of o) output))
     ≡ outcome s area o output
 found s area output (some file) = refl
 found s area output none = refl

@@ -11,10 +11,9 @@ use lib.Seq.{get_or-set_same, get_or-set_other}
 use borrow.Author.Tests.{eqb-true, eqb-false}
 use Rattle.lists.specs.Tests.{pick, among}
 use Rattle.lists.proofs.Pieces.{tabulate-at}
-use Rattle.sizes.specs.declared.Check.{Check}
-use Rattle.sizes.specs.declared.Check.TheVariants.{Pass, Refuse}
+use Rattle.std.specs.Prelude.{Ok, Err}
 use Rattle.sizes.specs.Sizing.{max_boards}
-use Rattle.sizes.specs.Refusals.{first, store_order}
+use Rattle.sizes.specs.Refusals.{first, store_order, Check}
 use Rattle.sizes.proofs.Laws.{number-low}
 use Rattle.store_spec.specs.Record.{Record, in_service, turn_on}
 use Rattle.store_spec.specs.Calls.{StoreOutcome, settle, refused, write_lines, write_done, write_call, lose_lines, lose_done, lose_call, repair_lines, repair_done, repair_call, read_lines}
@@ -28,8 +27,8 @@ use Rattle.store_spec.specs.MarkLaws.{MarkLaws}
 -- a call that is accepted has done its work
 by-done : (t : Check) (s : Record) (area output : List ℕ) (done : StoreOutcome)
     → (settle t (refused s area output) done).answer.refusal ≡ 0 → settle t (refused s area output) done ≡ done
-by-done Pass s area output done e = refl
-by-done (Refuse x) s area output done e = absurd (omega (arith, number-low x))
+by-done (Ok tt) s area output done e = refl
+by-done (Err x) s area output done e = absurd (omega (arith, number-low x))
 
 -- ---- a mark is set
 
@@ -72,8 +71,8 @@ module _ (s : Record) (area : List ℕ) where
   did-repair fresh helpers stand_ins e = by-done (first store_order (repair_lines s (length area) fresh helpers stand_ins)) s area [] (repair_done s area fresh helpers stand_ins) e
 
   same : (t : Check) (output : List ℕ) (done : StoreOutcome) → done.handed ≡ s → (settle t (refused s area output) done).handed ≡ s
-  same Pass output done e = e
-  same (Refuse x) output done e = refl
+  same (Ok tt) output done e = e
+  same (Err x) output done e = refl
 
   did_read : (boards output : List ℕ) → (read_call s area boards output).handed ≡ s
   unfolding read_call

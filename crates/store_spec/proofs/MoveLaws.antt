@@ -21,7 +21,7 @@ use Rattle.sizes.specs.declared.Refusal.TheVariants.{Count, Node, Repeat}
 use Rattle.sizes.proofs.Legal.{legal-facts}
 use Rattle.sizes.proofs.Orders.{◌also◌, off-pass}
 use Rattle.sizes.specs.Sizing.{legal, α, B, stripes}
-use Rattle.sizes.specs.declared.Check.TheVariants.{Pass}
+use Rattle.std.specs.Prelude.{Ok}
 use Rattle.mbcr.specs.Afresh.{share_afresh}
 use Rattle.mbcr.specs.AfreshLaws.{pairs_at}
 use Rattle.mbcr.specs.Rebuild.{seconds, helper_packet, stand_in_packet, exchange_packet, finished_share}
@@ -234,7 +234,7 @@ module _ (s : Record) (area : List ℕ) (board new : ℕ) (helpers partners : Li
 
 -- a file that fits is written over whatever area, and each board then holds its share
 module _ (t : Record) (any file : List ℕ) (ok : sound t ≡ true) (long : length any ≡ area_len t) (fits : length file ≤ t.capacity * B t.sizes) where
-  write-pass : first store_order (write_lines t (length any) file) ≡ Pass
+  write-pass : first store_order (write_lines t (length any) file) ≡ Ok tt
   unfolding write_lines
   write-pass = off-pass (write_lines t (length any) file) store_order (ap not ok also ap not (eq-eqb _ _ long) also le-ltb _ _ fits also tt)
 
@@ -263,7 +263,7 @@ module _ (t : Record) (any file : List ℕ) (ok : sound t ≡ true) (long : leng
 -- ---- an accepted move
 
 module _ (s : Record) (area : List ℕ) (board new : ℕ) (helpers partners : List ℕ) (ok : (move_call s area board new helpers partners).answer.refusal ≡ 0) where
-  pass : first store_order (move_lines s (length area) board new helpers partners) ≡ Pass
+  pass : first store_order (move_lines s (length area) board new helpers partners) ≡ Ok tt
   unfolding move_call
   pass = passes (first store_order (move_lines s (length area) board new helpers partners)) s area [] (move_done s area board new helpers partners) ok
 
@@ -392,7 +392,7 @@ module _ (s : Record) (area : List ℕ) (board new : ℕ) (helpers partners : Li
   unfolding move_call
   whole-taken =
       ap (λ (o : StoreOutcome). o.answer.refusal)
-      (settle-pass _ _ _ (subst (λ (m : ℕ). first store_order (move_lines s m board new helpers partners) ≡ Pass) (sym whole_long) (pass s area board new helpers partners ok)))
+      (settle-pass _ _ _ (subst (λ (m : ℕ). first store_order (move_lines s m board new helpers partners) ≡ Ok tt) (sym whole_long) (pass s area board new helpers partners ok)))
 
   same-afresh : (j : ℕ) → j < s.sizes.n → held s area j ≡ share s.sizes s.points file j → afresh s area board new j ≡ afresh s whole board new j
   same-afresh j h t =
@@ -434,7 +434,7 @@ module _ (s : Record) (area : List ℕ) (i : ℕ) (helpers partners : List ℕ) 
   is-board : i < s.sizes.n
   is-board = (below_all s.sizes.n (i ∷ (helpers ++ partners)) low).0
 
-  turn-pass : first store_order (move_lines s (length area) i i helpers partners) ≡ Pass
+  turn-pass : first store_order (move_lines s (length area) i i helpers partners) ≡ Ok tt
   turn-pass = moves-pass s (length area) i i helpers partners (record {
     is-sound = ok;
     area-is = area-is;

@@ -5,10 +5,9 @@ use mathlib.Core.Path.{◌≡◌, refl, ap}
 use mathlib.Core.Bool.{true, false, not}
 use mathlib.Core.List.{List, [], ◌∷◌}
 use native.Mathlib.Omega.{arith}
-use Rattle.sizes.specs.Refusals.{first, store_order}
+use Rattle.sizes.specs.Refusals.{first, store_order, Check}
 use Rattle.sizes.specs.Sizing.{max_boards, legal, max_stripes}
-use Rattle.sizes.specs.declared.Check.{Check}
-use Rattle.sizes.specs.declared.Check.TheVariants.{Pass, Refuse}
+use Rattle.std.specs.Prelude.{Ok, Err}
 use Rattle.sizes.specs.declared.Refusal.{Refusal}
 use Rattle.sizes.proofs.Orders.{◌also◌, clear-off, off-pass}
 use Rattle.store_spec.specs.Calls.{settle, record_line, StoreOutcome, accepted, refused, set_up_call}
@@ -22,13 +21,13 @@ use Rattle.sizes.specs.declared.Sizes.{Sizes}
 use Rattle.sizes.proofs.Laws.{number-low}
 use Rattle.mbcr.specs.Share.{pointed}
 
-pub settle-pass : {A : Type 0} (c : Check) (refuse : Refusal → A) (go : A) → c ≡ Pass → settle c refuse go ≡ go
+pub settle-pass : {A : Type 0} (c : Check) (refuse : Refusal → A) (go : A) → c ≡ Ok tt → settle c refuse go ≡ go
 settle-pass c refuse go e = ap (λ (x : Check). settle x refuse go) e
 
 -- a call that answers no refusal has passed its lines
-pub passes : (c : Check) (s : Record) (area output : List ℕ) (done : StoreOutcome) → (settle c (refused s area output) done).answer.refusal ≡ 0 → c ≡ Pass
-passes Pass s area output done e = refl
-passes (Refuse x) s area output done e = absurd (omega (arith, number-low x))
+pub passes : (c : Check) (s : Record) (area output : List ℕ) (done : StoreOutcome) → (settle c (refused s area output) done).answer.refusal ≡ 0 → c ≡ Ok tt
+passes (Ok tt) s area output done e = refl
+passes (Err x) s area output done e = absurd (omega (arith, number-low x))
 
 pub set-up-sound : (old : Record) (z : Sizes) (xs : List ℕ) (c : ℕ) → (set_up_call old z xs c).answer.refusal ≡ 0 → sound (new_record z xs c) ≡ true
 unfolding set_up_call
@@ -53,7 +52,7 @@ new-sound z xs c l p a b =
     })
 
 pub new-pass : (z : Sizes) (xs : List ℕ) (c : ℕ) → legal z ≡ true → pointed z xs ≡ true → 1 ≤ c → c ≤ max_stripes
-    → first store_order (record_line (new_record z xs c) ∷ []) ≡ Pass
+    → first store_order (record_line (new_record z xs c) ∷ []) ≡ Ok tt
 new-pass z xs c l p a b =
     off-pass (record_line (new_record z xs c) ∷ []) store_order (ap not (new-sound z xs c l p a b) also tt)
 

@@ -13,7 +13,7 @@ use Rattle.lists.proofs.Tests.{alls-hold, hold-alls, not-no}
 use Rattle.lists.proofs.Boards.{below_all}
 use Rattle.sizes.specs.Refusals.{first, store_order}
 use Rattle.sizes.specs.Sizing.{legal, max_stripes, B, α, stripes}
-use Rattle.sizes.specs.declared.Check.TheVariants.{Pass}
+use Rattle.std.specs.Prelude.{Ok}
 use Rattle.sizes.specs.declared.Refusal.TheVariants.{Size, Area, Long, Count, Node, Repeat, Short, Empty, Down, Disagree, Serving, Range}
 use Rattle.sizes.specs.declared.Sizes.{Sizes}
 use Rattle.sizes.proofs.Legal.{stripes-least, legal-facts}
@@ -106,7 +106,7 @@ pub record Writes (s : Record) (m : ℕ) (file : List ℕ) : Type 0 where
   pub area-is : m ≡ area_len s
   pub file-fits : length file ≤ s.capacity * B s.sizes
 
-pub write-facts : (s : Record) (m : ℕ) (file : List ℕ) → first store_order (write_lines s m file) ≡ Pass → Writes s m file
+pub write-facts : (s : Record) (m : ℕ) (file : List ℕ) → first store_order (write_lines s m file) ≡ Ok tt → Writes s m file
 unfolding write_lines
 write-facts s m file h =
     let off = clear-off (write_lines s m file) store_order h in
@@ -116,7 +116,7 @@ pub record Loses (s : Record) (board : ℕ) : Type 0 where
   pub is-sound : sound s ≡ true
   pub known : board < s.sizes.n
 
-pub lose-facts : (s : Record) (board : ℕ) → first store_order (lose_lines s board) ≡ Pass → Loses s board
+pub lose-facts : (s : Record) (board : ℕ) → first store_order (lose_lines s board) ≡ Ok tt → Loses s board
 unfolding lose_lines
 lose-facts s board h =
     let off = clear-off (lose_lines s board) store_order h in
@@ -153,7 +153,7 @@ repeat_tests s fresh helpers stand_ins =
     ∷ apart fresh (helpers ++ stand_ins)
     ∷ []
 
-pub repair-facts : (s : Record) (m : ℕ) (fresh helpers stand_ins : List ℕ) → first store_order (repair_lines s m fresh helpers stand_ins) ≡ Pass
+pub repair-facts : (s : Record) (m : ℕ) (fresh helpers stand_ins : List ℕ) → first store_order (repair_lines s m fresh helpers stand_ins) ≡ Ok tt
     → Repairs s m fresh helpers stand_ins
 unfolding repair_lines list_lines
 repair-facts s m fresh helpers stand_ins h =
@@ -198,7 +198,7 @@ reads-by s m many boards is area written count low unlike up = record {
   all_up = not-no _ up;
 }
 
-pub read-facts : (s : Record) (area boards output : List ℕ) → first store_order (read_lines s area boards output) ≡ Pass
+pub read-facts : (s : Record) (area boards output : List ℕ) → first store_order (read_lines s area boards output) ≡ Ok tt
     → Reads s (length area) s.sizes.k boards × (s.length ≤ length output) × (given (file_held s area boards) ≡ true)
 unfolding read_lines
 read-facts s area boards output h =
@@ -210,7 +210,7 @@ read-facts s area boards output h =
     )
 
 pub reads-pass : (s : Record) (area boards output : List ℕ) → Reads s (length area) s.sizes.k boards → s.length ≤ length output
-    → given (file_held s area boards) ≡ true → first store_order (read_lines s area boards output) ≡ Pass
+    → given (file_held s area boards) ≡ true → first store_order (read_lines s area boards output) ≡ Ok tt
 unfolding read_lines
 reads-pass s area boards output f room g =
     off-pass (read_lines s area boards output) store_order
@@ -225,7 +225,7 @@ reads-pass s area boards output f room g =
     also ap not g
     also tt)
 
-pub edit-facts : (s : Record) (area : List ℕ) (offset : ℕ) (bytes boards : List ℕ) → first store_order (edit_lines s area offset bytes boards) ≡ Pass
+pub edit-facts : (s : Record) (area : List ℕ) (offset : ℕ) (bytes boards : List ℕ) → first store_order (edit_lines s area offset bytes boards) ≡ Ok tt
     → Reads s (length area) s.sizes.k boards × (offset + length bytes ≤ s.length) × (given (file_held s area boards) ≡ true)
 unfolding edit_lines
 edit-facts s area offset bytes boards h =
@@ -240,7 +240,7 @@ edit-facts s area offset bytes boards h =
 abbrev pub care_tests : Record → List ℕ → List Bool
 care_tests s boards = leb (s.sizes.k + 2) s.sizes.n ∷ eqb (length boards) (s.sizes.k + 2) ∷ []
 
-pub careful-facts : (s : Record) (area boards output : List ℕ) → first store_order (careful_lines s area boards output) ≡ Pass → Reads s (length area) (s.sizes.k + 2) boards
+pub careful-facts : (s : Record) (area boards output : List ℕ) → first store_order (careful_lines s area boards output) ≡ Ok tt → Reads s (length area) (s.sizes.k + 2) boards
 unfolding careful_lines
 careful-facts s area boards output h =
     let off = clear-off (careful_lines s area boards output) store_order h in
@@ -248,7 +248,7 @@ careful-facts s area boards output h =
     (eqb-true _ _ (alls-hold (care_tests s boards) (not-no _ (off Count refl))).1.0) (off Node refl) (off Repeat refl) (off Down refl)
 
 pub cares-pass : (s : Record) (area boards output : List ℕ) → Reads s (length area) (s.sizes.k + 2) boards → s.sizes.k + 2 ≤ s.sizes.n → s.length ≤ length output
-    → given (careful_file s area boards) ≡ true → first store_order (careful_lines s area boards output) ≡ Pass
+    → given (careful_file s area boards) ≡ true → first store_order (careful_lines s area boards output) ≡ Ok tt
 unfolding careful_lines
 cares-pass s area boards output f enough room g =
     off-pass (careful_lines s area boards output) store_order
@@ -282,7 +282,7 @@ abbrev pub move_repeats : Record → ℕ → ℕ → List ℕ → List ℕ → L
 move_repeats s board point helpers partners =
     different (board ∷ (helpers ++ partners)) ∷ not (among (take s.sizes.n s.points) point) ∷ []
 
-pub move-facts : (s : Record) (m board point : ℕ) (helpers partners : List ℕ) → first store_order (move_lines s m board point helpers partners) ≡ Pass
+pub move-facts : (s : Record) (m board point : ℕ) (helpers partners : List ℕ) → first store_order (move_lines s m board point helpers partners) ≡ Ok tt
     → Moves s m board point helpers partners
 unfolding move_lines
 move-facts s m board point helpers partners h =
@@ -302,7 +302,7 @@ move-facts s m board point helpers partners h =
     }
 
 pub moves-pass : (s : Record) (m board point : ℕ) (helpers partners : List ℕ) → Moves s m board point helpers partners
-    → first store_order (move_lines s m board point helpers partners) ≡ Pass
+    → first store_order (move_lines s m board point helpers partners) ≡ Ok tt
 unfolding move_lines
 moves-pass s m board point helpers partners f =
     off-pass (move_lines s m board point helpers partners) store_order

@@ -9,7 +9,7 @@ use Rattle.lists.specs.Lists.{All, joined}
 use Rattle.lists.proofs.Alls.{all-imp, all_left}
 use Rattle.lists.proofs.Tests.{true-false, every-all}
 use Rattle.sizes.specs.Refusals.{first, store_order}
-use Rattle.sizes.specs.declared.Check.TheVariants.{Pass}
+use Rattle.std.specs.Prelude.{Ok}
 use Rattle.store_spec.specs.Calls.{repair_lines, StoreOutcome, repair_call, repair_done}
 use Rattle.store_spec.specs.Packets.{helper_packets, stand_in_packets, exchange_packets, partner_packets, repair_packets, hear_helpers, hear_partners, stand_ins_each, fresh_share}
 use Rattle.store_spec.specs.Record.{held, used_len, in_service, Record}
@@ -23,7 +23,7 @@ use Rattle.store_spec.proofs.Repair.{partners_of, moved-is, partners-are, share-
 use Rattle.store_spec.proofs.Seam.{Lengths}
 use Rattle.store_spec.proofs.Passed.{settle-pass, passes}
 
-module _ (s : Record) (area fresh helpers stand_ins : List ℕ) (pass : first store_order (repair_lines s (length area) fresh helpers stand_ins) ≡ Pass) where
+module _ (s : Record) (area fresh helpers stand_ins : List ℕ) (pass : first store_order (repair_lines s (length area) fresh helpers stand_ins) ≡ Ok tt) where
   facts : Repairs s (length area) fresh helpers stand_ins
   facts = repair-facts s (length area) fresh helpers stand_ins pass
 

@@ -14,7 +14,7 @@ use Rattle.lists.proofs.Boards.{below_all, all-below, all_among, get_d-among, al
 use Rattle.lists.proofs.Pieces.{tabulate-all}
 use Rattle.lists.proofs.Tests.{every-all, all-every}
 use Rattle.sizes.specs.Refusals.{first, store_order}
-use Rattle.sizes.specs.declared.Check.TheVariants.{Pass}
+use Rattle.std.specs.Prelude.{Ok}
 use Rattle.sizes.specs.declared.Sizes.{Sizes}
 use Rattle.sizes.proofs.Legal.{legal-facts}
 use Rattle.mbcr.proofs.Points.{Boards, boards-of}
@@ -87,7 +87,7 @@ module _ (s : Record) (m : ℕ) (fresh helpers stand_ins : List ℕ) (f : Repair
       unequal-all s.points (tabulate (length fresh) run) (tabulate-all (λ r. equal_points s.points r ≡ false) (length fresh) run fresh-runs)
 
 repair-apart : (s : Record) (m : ℕ) (fresh helpers stand_ins : List ℕ)
-    → first store_order (repair_lines s m fresh helpers stand_ins) ≡ Pass → equal_points s.points (repair_runs s fresh helpers stand_ins) ≡ false
+    → first store_order (repair_lines s m fresh helpers stand_ins) ≡ Ok tt → equal_points s.points (repair_runs s fresh helpers stand_ins) ≡ false
 repair-apart s m fresh helpers stand_ins h = all_runs s m fresh helpers stand_ins (repair-facts s m fresh helpers stand_ins h)
 
 -- of k boards that a call decodes from
@@ -95,20 +95,20 @@ decode-apart : (s : Record) (boards : List ℕ) → Sound s → Boards s.sizes b
 decode-apart s boards g b = read-runs s.sizes s.points (legal-facts s.sizes g.is-legal) (sound-points s g) boards b
 
 read-apart : (s : Record) (area boards output : List ℕ)
-    → first store_order (read_lines s area boards output) ≡ Pass → equal_points s.points (read_runs s.sizes boards) ≡ false
+    → first store_order (read_lines s area boards output) ≡ Ok tt → equal_points s.points (read_runs s.sizes boards) ≡ false
 read-apart s area boards output h =
     let f = (read-facts s area boards output h).0 in
     decode-apart s boards (sound-facts s f.is-sound) (boards-of s.sizes boards f.named-below f.all-different)
 
 edit-apart : (s : Record) (area : List ℕ) (offset : ℕ) (bytes boards : List ℕ)
-    → first store_order (edit_lines s area offset bytes boards) ≡ Pass → equal_points s.points (read_runs s.sizes boards) ≡ false
+    → first store_order (edit_lines s area offset bytes boards) ≡ Ok tt → equal_points s.points (read_runs s.sizes boards) ≡ false
 edit-apart s area offset bytes boards h =
     let f = (edit-facts s area offset bytes boards h).0 in
     decode-apart s boards (sound-facts s f.is-sound) (boards-of s.sizes boards f.named-below f.all-different)
 
 -- of any of the boards of a careful read, and so of its tries
 careful-any-apart : (s : Record) (area boards output some : List ℕ)
-    → first store_order (careful_lines s area boards output) ≡ Pass → different some ≡ true → All (λ i. among boards i ≡ true) some
+    → first store_order (careful_lines s area boards output) ≡ Ok tt → different some ≡ true → All (λ i. among boards i ≡ true) some
     → equal_points s.points (read_runs s.sizes some) ≡ false
 careful-any-apart s area boards output some h d a =
     let f = careful-facts s area boards output h in
@@ -117,7 +117,7 @@ careful-any-apart s area boards output some h d a =
     (boards-of s.sizes some (all-below s.sizes.n some (all-imp (λ i. among boards i ≡ true) (λ i. i < s.sizes.n) (λ i e. all_among (λ x. x < s.sizes.n) boards i low e) some a)) d)
 
 careful-apart : (s : Record) (area boards output : List ℕ)
-    → first store_order (careful_lines s area boards output) ≡ Pass → equal_points s.points (careful_runs s.sizes boards) ≡ false
+    → first store_order (careful_lines s area boards output) ≡ Ok tt → equal_points s.points (careful_runs s.sizes boards) ≡ false
 careful-apart s area boards output h =
     let f = careful-facts s area boards output h in
     let run : ℕ → List (List ℕ) = λ t. read_runs s.sizes (take s.sizes.k (leaving t boards)) in
@@ -136,7 +136,7 @@ others_apart s board g =
     (all_without (λ j. j < s.sizes.n) board (tabulate s.sizes.n (λ i. i)) (first_below s.sizes.n s.sizes.n (omega arith))))
 
 move-apart : (s : Record) (m board point : ℕ) (helpers partners : List ℕ) → point < 256
-    → first store_order (move_lines s m board point helpers partners) ≡ Pass
+    → first store_order (move_lines s m board point helpers partners) ≡ Ok tt
     → (equal_points s.points (afresh_runs s.sizes board) ≡ false)
     × (equal_points (set s.points board point) (repair_runs (moved_record s board point) (board ∷ []) helpers partners) ≡ false)
 move-apart s m board point helpers partners byte h =

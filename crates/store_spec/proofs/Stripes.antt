@@ -13,7 +13,7 @@ use Rattle.lists.proofs.Boards.{all_without, all-is-among, among-all}
 use Rattle.lists.proofs.Pieces.{tabulate-ext, tabulate-at, tabulate-map, map-append, piece-zero, piece-suc, piece-at, join-ext, piece-join, length-join, join-joined, join-ones}
 use Rattle.sizes.specs.Refusals.{first, store_order}
 use Rattle.sizes.specs.Sizing.{α, legal}
-use Rattle.sizes.specs.declared.Check.TheVariants.{Pass}
+use Rattle.std.specs.Prelude.{Ok}
 use Rattle.sizes.specs.declared.Sizes.{Sizes}
 use Rattle.polynomial.specs.Polynomial.{eval}
 use Rattle.mbcr.specs.Rebuild.{own_g, helper_pair, helper_packet, stand_in_packet, received, g_from, exchange_packet, finished_share, exchanged}
@@ -154,7 +154,7 @@ module _ (z : Sizes) (xs : List ℕ) (S : ℕ) (hold : ℕ → List ℕ) where
 -- ---- an accepted repair
 
 module _ (s : Record) (area fresh helpers stand_ins : List ℕ) (h : (repair_call s area fresh helpers stand_ins).answer.refusal ≡ 0) where
-  pass : first store_order (repair_lines s (length area) fresh helpers stand_ins) ≡ Pass
+  pass : first store_order (repair_lines s (length area) fresh helpers stand_ins) ≡ Ok tt
   unfolding repair_call
   pass = passes (first store_order (repair_lines s (length area) fresh helpers stand_ins)) s area [] (repair_done s area fresh helpers stand_ins) h
 

@@ -2,18 +2,15 @@
 -- every lent byte after it. "Shares, packets and reads use" the record's own points (request A.9); `m` in the
 -- lines is the area's length.
 -- Assumes nothing.
-use Rattle.std.specs.Prelude.{ℕ, ◌*◌, false, not, List, [], ◌∷◌, ◌++◌, leb, ltb, eqb, length, set}
+use Rattle.std.specs.Prelude.{ℕ, ◌*◌, false, not, List, [], ◌∷◌, ◌++◌, leb, ltb, eqb, length, set, Ok, Err}
 use Rattle.std.proofs.Math.Option.{Option}
 use Rattle.lists.specs.Tests.{every, alls, different, apart, given}
 use Rattle.lists.specs.Lists.{tabulate, joined, over}
 use Rattle.sizes.specs.declared.Sizes.{Sizes}
 use Rattle.sizes.specs.declared.Refusal.{Refusal}
 use Rattle.sizes.specs.declared.Refusal.TheVariants.{Size, Area, Long, Count, Repeat, Short, Empty, Down, Disagree, Serving}
-use Rattle.sizes.specs.declared.Check.{Check}
-use Rattle.sizes.specs.declared.Check.TheVariants.{Pass, Refuse}
-use Rattle.sizes.specs.declared.Answer.TheVariants.{Done, Refused}
 use Rattle.sizes.specs.Sizing.{B}
-use Rattle.sizes.specs.Refusals.{Said, said, Line, ◌when◌, first, store_order}
+use Rattle.sizes.specs.Refusals.{Said, said, Line, ◌when◌, first, store_order, Check}
 use Rattle.mbcr.specs.Share.{share}
 use Rattle.mbcr.specs.Read.{read_file}
 use Rattle.board_spec.specs.Calls.{file_of, node_line}
@@ -29,16 +26,16 @@ pub record StoreOutcome : Type 0 where
 
 -- a call that is accepted: the number that it reports, the record that it hands on, and the lent bytes after it
 abbrev pub accepted : ℕ → Record → List ℕ → List ℕ → StoreOutcome
-accepted v s area output = record { answer = said (Done v); handed = s; area = area; output = output }
+accepted v s area output = record { answer = said (Ok v); handed = s; area = area; output = output }
 
 -- "All refusals behave alike: the number is answered, the record comes back unchanged, and lent memory is untouched."
 abbrev pub refused : Record → List ℕ → List ℕ → Refusal → StoreOutcome
-refused s area output x = record { answer = said (Refused x); handed = s; area = area; output = output }
+refused s area output x = record { answer = said (Err x); handed = s; area = area; output = output }
 
 -- what is picked by a check: one thing for a refusal, another where it passes
 abbrev pub settle : {A : Type 0} → Check → (Refusal → A) → A → A
-settle Pass refuse go = go
-settle (Refuse x) refuse go = refuse x
+settle (Ok tt) refuse go = go
+settle (Err x) refuse go = refuse x
 
 -- ---- who causes a refusal
 

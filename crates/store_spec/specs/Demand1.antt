@@ -2,14 +2,13 @@
 -- or with the first refusal whose line holds, and a refusal hands back the record as it came and changes no byte. And what an accepted call does to record, area and output, over any area.
 -- proofs/Demand1.antt has `demand-1 : StoreCalls`.
 -- Assumes nothing.
-use Rattle.std.specs.Prelude.{◌≡◌, true, false, ◌≢◌, ◌↔◌, ◌⊎◌, List, [], ◌∷◌, ◌++◌, ℕ, suc, ◌+◌, ◌-◌, ◌*◌, ◌≤◌, ◌<◌, ltb, length, take, drop, get_or, replicate}
+use Rattle.std.specs.Prelude.{◌≡◌, true, false, ◌≢◌, ◌↔◌, ◌⊎◌, List, [], ◌∷◌, ◌++◌, ℕ, suc, ◌+◌, ◌-◌, ◌*◌, ◌≤◌, ◌<◌, ltb, length, take, drop, get_or, replicate, Err}
 use Rattle.std.proofs.Math.Option.{none}
 use Rattle.lists.specs.Tests.{every, alls, below, among, different, apart}
 use Rattle.lists.specs.Lists.{All, Bytes, tabulate, piece, over}
 use Rattle.sizes.specs.declared.Sizes.{Sizes}
 use Rattle.sizes.specs.declared.Refusal.{Refusal}
 use Rattle.sizes.specs.declared.Refusal.TheVariants.{Size, Area, Long, Count, Node, Repeat, Short, Empty, Down, Disagree, Serving, Range}
-use Rattle.sizes.specs.declared.Answer.TheVariants.{Refused}
 use Rattle.sizes.specs.Sizing.{max_stripes, legal, α, B, stripes}
 use Rattle.sizes.specs.Refusals.{number, said, Line, applies_in, store_order}
 use Rattle.sizes.specs.Laws.{First}
@@ -27,7 +26,7 @@ pub record StoreEnds (lines : List Line) (s : Record) (area output : List ℕ) (
   -- some line is the first that holds, or none holds
   pub one : ((x : Refusal) × First store_order lines x) ⊎ All (λ x. applies_in lines x ≡ false) store_order
   -- "The first that applies is given", and all is as it came
-  pub refuses : (x : Refusal) → First store_order lines x → o ≡ record { answer = said (Refused x); handed = s; area = area; output = output }
+  pub refuses : (x : Refusal) → First store_order lines x → o ≡ record { answer = said (Err x); handed = s; area = area; output = output }
   -- "otherwise the call does its work"
   pub works : All (λ x. applies_in lines x ≡ false) store_order → (o ≡ done) × (o.answer.refusal ≡ 0)
 

@@ -1,11 +1,10 @@
 -- Request A.10, 'To the present points with the robot running': what an accepted move does over any record and any area, what it makes of true shares,
 -- and one move of the turn of all boards; the turn whole is in crate list_spec. proofs/MoveLaws.antt has `move-laws : MoveLaws`.
 -- Assumes nothing.
-use Rattle.std.specs.Prelude.{◌≡◌, true, false, ◌≢◌, ◌↔◌, ◌⊎◌, List, [], ◌∷◌, ◌++◌, map, ℕ, suc, ◌+◌, ◌-◌, ◌*◌, ◌<◌, length, take, set}
+use Rattle.std.specs.Prelude.{◌≡◌, true, false, ◌≢◌, ◌↔◌, ◌⊎◌, List, [], ◌∷◌, ◌++◌, map, ℕ, suc, ◌+◌, ◌-◌, ◌*◌, ◌<◌, length, take, set, Ok}
 use Rattle.lists.specs.Tests.{among, below, different, every}
 use Rattle.lists.specs.Lists.{All, Bytes, joined}
 use Rattle.sizes.specs.declared.Sizes.{Sizes}
-use Rattle.sizes.specs.declared.Answer.TheVariants.{Done}
 use Rattle.sizes.specs.Sizing.{legal}
 use Rattle.sizes.specs.declared.Refusal.TheVariants.{Count, Node, Repeat}
 use Rattle.sizes.specs.Refusals.{said, applies_in}
@@ -27,7 +26,7 @@ pub record Moved (s : Record) (area : List ℕ) (board point : ℕ) (helpers par
   pub record_is : (move_call s area board point helpers partners).handed
       ≡ record { sizes = s.sizes; points = ys; capacity = s.capacity; written = s.written; length = s.length; marks = s.marks }
   -- "the bytes reported are those of a repair of one board": the summed length of its packets
-  pub moved : (move_call s area board point helpers partners).answer ≡ said (Done (total (move_packets s area board point helpers partners)))
+  pub moved : (move_call s area board point helpers partners).answer ≡ said (Ok (total (move_packets s area board point helpers partners)))
   pub moved-is : total (move_packets s area board point helpers partners) ≡ stripe_count s * (2 * s.sizes.d + s.sizes.r - 1)
   -- "Every other board works out its own kept values afresh from f and g": board i, from what it held before
   pub afresh-is : (i : ℕ) → afresh s area board point i ≡ share_afresh s.sizes s.points ys (stripe_count s) i (held s area i)

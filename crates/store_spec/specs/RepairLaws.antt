@@ -1,9 +1,8 @@
 -- What an accepted repair does, over any record and any area. proofs/RepairLaws.antt has `repair-laws : RepairLaws`.
 -- Assumes nothing.
-use Rattle.std.specs.Prelude.{ℕ, ◌+◌, ◌-◌, ◌*◌, ◌<◌, ◌≡◌, true, false, List, ◌++◌, length, take, drop, get_or}
+use Rattle.std.specs.Prelude.{ℕ, ◌+◌, ◌-◌, ◌*◌, ◌<◌, ◌≡◌, true, false, List, ◌++◌, length, take, drop, get_or, Ok}
 use Rattle.lists.specs.Tests.{among}
 use Rattle.lists.specs.Lists.{joined, without, All}
-use Rattle.sizes.specs.declared.Answer.TheVariants.{Done}
 use Rattle.sizes.specs.Refusals.{said}
 use Rattle.mbcr.specs.Rebuild.{helper_packet, stand_in_packet, exchange_packet, finished_share}
 use Rattle.store_spec.specs.Record.{Record, stripe_count, held, in_service}
@@ -13,7 +12,7 @@ use Rattle.store_spec.specs.Calls.{repair_call}
 -- An accepted repair, over any record and any area.
 pub record Repaired (s : Record) (area fresh helpers stand_ins : List ℕ) : Type 0 where
   -- "the bytes moved, the summed length of all packets"; request A.3: "the report is S × t × (2d + r − 1)"
-  pub moved : (repair_call s area fresh helpers stand_ins).answer ≡ said (Done (total (repair_packets s area fresh helpers stand_ins)))
+  pub moved : (repair_call s area fresh helpers stand_ins).answer ≡ said (Ok (total (repair_packets s area fresh helpers stand_ins)))
   pub moved-is : total (repair_packets s area fresh helpers stand_ins) ≡ stripe_count s * length fresh * (2 * s.sizes.d + s.sizes.r - 1)
   -- the packets are those of the helpers, of the stand-ins, and those that fresh boards exchange, which the fresh shares are made of: stand-ins and
   -- other fresh boards are the partners

@@ -1,11 +1,10 @@
 -- Request A.5, the store: no call answers 11 POINTS, since the checks before it leave no input with two equal points in one interpolation.
 -- proofs/Runs.antt has `store-runs : StoreRuns`.
 -- Assumes nothing.
-use Rattle.std.specs.Prelude.{◌≡◌, true, false, ◌≢◌, List, [], ◌∷◌, ◌++◌, map, ℕ, ◌-◌, ◌<◌, length, get_or, take, set}
+use Rattle.std.specs.Prelude.{◌≡◌, true, false, ◌≢◌, List, [], ◌∷◌, ◌++◌, map, ℕ, ◌-◌, ◌<◌, length, get_or, take, set, Ok}
 use Rattle.lists.specs.Tests.{among, different}
 use Rattle.lists.specs.Lists.{All, tabulate, concat, piece, without}
 use Rattle.sizes.specs.declared.Sizes.{Sizes}
-use Rattle.sizes.specs.declared.Check.TheVariants.{Pass}
 use Rattle.sizes.specs.Refusals.{first, store_order}
 use Rattle.board_spec.specs.Runs.{equal_points, own_runs, finish_runs, read_runs, Within}
 use Rattle.store_spec.specs.Record.{Record}
@@ -44,22 +43,22 @@ afresh_runs z board = concat (map (own_runs z) (without board (tabulate z.n (λ 
 pub record StoreRuns : Type 0 where
   pub repair-are : (s : Record) (fresh helpers stand_ins : List ℕ) (a : ℕ) → a < length fresh → RepairAre s fresh helpers stand_ins a
   pub repair-apart : (s : Record) (m : ℕ) (fresh helpers stand_ins : List ℕ)
-      → first store_order (repair_lines s m fresh helpers stand_ins) ≡ Pass → equal_points s.points (repair_runs s fresh helpers stand_ins) ≡ false
+      → first store_order (repair_lines s m fresh helpers stand_ins) ≡ Ok tt → equal_points s.points (repair_runs s fresh helpers stand_ins) ≡ false
   pub read-apart : (s : Record) (area boards output : List ℕ)
-      → first store_order (read_lines s area boards output) ≡ Pass → equal_points s.points (read_runs s.sizes boards) ≡ false
+      → first store_order (read_lines s area boards output) ≡ Ok tt → equal_points s.points (read_runs s.sizes boards) ≡ false
   -- an edit decodes from its k boards as a read does
   pub edit-apart : (s : Record) (area : List ℕ) (offset : ℕ) (bytes boards : List ℕ)
-      → first store_order (edit_lines s area offset bytes boards) ≡ Pass → equal_points s.points (read_runs s.sizes boards) ≡ false
+      → first store_order (edit_lines s area offset bytes boards) ≡ Ok tt → equal_points s.points (read_runs s.sizes boards) ≡ false
   -- the tries of a careful read are among these, and none has two equal points; no more has a decoding from any others of its boards, in any order
   pub careful-are : (z : Sizes) (boards : List ℕ) (t : ℕ) → t < length boards → Within (read_runs z (take z.k (leaving t boards))) (careful_runs z boards)
   pub careful-apart : (s : Record) (area boards output : List ℕ)
-      → first store_order (careful_lines s area boards output) ≡ Pass → equal_points s.points (careful_runs s.sizes boards) ≡ false
+      → first store_order (careful_lines s area boards output) ≡ Ok tt → equal_points s.points (careful_runs s.sizes boards) ≡ false
   pub careful-any-apart : (s : Record) (area boards output some : List ℕ)
-      → first store_order (careful_lines s area boards output) ≡ Pass → different some ≡ true → All (λ i. among boards i ≡ true) some
+      → first store_order (careful_lines s area boards output) ≡ Ok tt → different some ≡ true → All (λ i. among boards i ≡ true) some
       → equal_points s.points (read_runs s.sizes some) ≡ false
   -- request A.10: every other board's f and g are among those at the points before a move, and neither there nor at the points after it has one two equal points
   pub move-are : (z : Sizes) (board i : ℕ) → i < z.n → i ≢ board → Within (own_runs z i) (afresh_runs z board)
   pub move-apart : (s : Record) (m board point : ℕ) (helpers partners : List ℕ) → point < 256
-      → first store_order (move_lines s m board point helpers partners) ≡ Pass
+      → first store_order (move_lines s m board point helpers partners) ≡ Ok tt
       → (equal_points s.points (afresh_runs s.sizes board) ≡ false)
       × (equal_points (set s.points board point) (repair_runs (moved_record s board point) (board ∷ []) helpers partners) ≡ false)

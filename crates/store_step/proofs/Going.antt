@@ -12,9 +12,8 @@ use Rattle.lists.specs.Tests.{pick}
 use lib.Seq.{length-take-le}
 use Rattle.lists.proofs.Tests.{alls-hold, not-no}
 use Rattle.sizes.specs.declared.Sizes.{Sizes}
-use Rattle.sizes.specs.declared.Check.TheVariants.{Pass}
+use Rattle.std.specs.Prelude.{Ok}
 use Rattle.sizes.specs.declared.Refusal.TheVariants.{Size, Area, Empty, Idle}
-use Rattle.sizes.specs.declared.Answer.TheVariants.{Done}
 use Rattle.sizes.specs.Refusals.{first, store_order, said}
 use Rattle.sizes.proofs.Orders.{clear-off}
 use Rattle.store_spec.specs.Record.{Record, sound, area_len, with_marks, turn_on, put_shares}
@@ -42,7 +41,7 @@ pub record Lists (s : Record) (p : Running) (area packets F H I : List ℕ) : Ty
   pub is-going : Going s (take p.count F) (take (p.count * s.sizes.d) H) (take (p.count * (s.sizes.r - p.count)) I) area packets
   pub is-listing : Listing s p (take p.count F) (take (p.count * s.sizes.d) H) (take (p.count * (s.sizes.r - p.count)) I)
 
-module _ (s : Record) (p : Running) (area packets : List ℕ) (pass : first store_order (step_lines s p (length area) (length packets)) ≡ Pass) where
+module _ (s : Record) (p : Running) (area packets : List ℕ) (pass : first store_order (step_lines s p (length area) (length packets)) ≡ Ok tt) where
   -- the tests of SIZE and of AREA
   sizes-hold : (sound s ≡ true) × (sound_beside s p ≡ true)
   unfolding step_lines
@@ -134,7 +133,7 @@ still-going s fresh helpers stand_ins area packets after g e =
 
 -- what a step hands on, by its parts
 abbrev leaves : ℕ → Record → Running → List ℕ → List ℕ → Outcome
-leaves m s p area packets = record { answer = said (Done m); handed = s; running = p; area = area; output = []; packets = packets }
+leaves m s p area packets = record { answer = said (Ok m); handed = s; running = p; area = area; output = []; packets = packets }
 
 module _ (s : Record) (p : Running) (area packets : List ℕ) (allowance : ℕ) (fresh helpers stand_ins : List ℕ) (l : Listing s p fresh helpers stand_ins) where
   -- packets that are left

@@ -1,7 +1,6 @@
 -- What the work of a step asks, and what it leaves.
 -- Assumes nothing.
-use Rattle.std.specs.Prelude.{◌≡◌, true, List, [], ℕ, ◌<◌, length}
-use Rattle.sizes.specs.declared.Answer.TheVariants.{Done}
+use Rattle.std.specs.Prelude.{◌≡◌, true, List, [], ℕ, ◌<◌, length, Ok}
 use Rattle.sizes.specs.Refusals.{said}
 use Rattle.store_spec.specs.Record.{Record, sound, area_len}
 use Rattle.beside_spec.specs.Running.{Running, fresh_of, helpers_of, stand_ins_of, packet_count, packets_len}
@@ -28,4 +27,4 @@ pub record Listing (s : Record) (p : Running) (fresh helpers stand_ins : List �
 -- what a step leaves, with both areas, as its definition has it
 abbrev pub left_by : Stepped → List ℕ → List ℕ → Outcome
 left_by r area packets =
-    record { answer = said (Done r.count); handed = record_of r.record; running = running_in r.running; area = area; output = []; packets = packets }
+    record { answer = said (Ok r.count); handed = record_of r.record; running = running_in r.running; area = area; output = []; packets = packets }

@@ -3,8 +3,7 @@
 
 #![tactic(auto)]
 
-ghost use Rattle.std.specs.Prelude.{◌≡◌, ◌+◌, ◌≤◌, length};
-ghost use Rattle.sizes.specs.declared.Check.TheVariants.{Pass};
+ghost use Rattle.std.specs.Prelude.{◌≡◌, ◌+◌, ◌≤◌, length, Ok};
 ghost use Rattle.sizes.specs.Refusals.{first, store_order};
 ghost use Rattle.store_spec.specs.Record.{with_marks, turn_on, put_shares};
 ghost use Rattle.beside_spec.specs.Running.{packet_count};
@@ -136,7 +135,7 @@ pub fn step(
     packets: &mut [u8],
     allowance: usize,
 ) -> Stepped
-    requires { first store_order (step_lines (record_of kept) (running_in running) (length area.old) (length packets.old)) ≡ Pass }
+    requires { first store_order (step_lines (record_of kept) (running_in running) (length area.old) (length packets.old)) ≡ Ok tt }
     ensures { left_by result area.new packets.new ≡ step_done (record_of kept) (running_in running) area.old packets.old allowance }
 {
     let fresh = running.fresh;

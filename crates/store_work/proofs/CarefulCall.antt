@@ -12,9 +12,8 @@ use Rattle.lists.specs.Tests.{given}
 use Rattle.lists.proofs.Tests.{not-no, alls-hold}
 use Rattle.sizes.specs.declared.Refusal.{Refusal}
 use Rattle.sizes.specs.declared.Refusal.TheVariants.{Size, Area, Count, Node, Repeat, Short, Disagree}
-use Rattle.sizes.specs.declared.Check.{Check}
-use Rattle.sizes.specs.declared.Check.TheVariants.{Pass, Refuse}
-use Rattle.sizes.specs.Refusals.{◌when◌, first, store_order}
+use Rattle.std.specs.Prelude.{Ok, Err}
+use Rattle.sizes.specs.Refusals.{◌when◌, first, store_order, Check}
 use Rattle.sizes.proofs.Orders.{clear-off}
 use Rattle.board_spec.specs.Calls.{file_of}
 use Rattle.store_spec.specs.Record.{Record}
@@ -46,11 +45,11 @@ module _ (s : Record) (p : Running) (area boards output : List ℕ) where
   unfolding careful_lines_both careful_lines
   in-turn = sym (split (asked_lines s p (length area) boards output) (Disagree when not (given (careful_file s area boards)) ∷ []))
 
-  pub careful-refuses : {r : Check} {x : Refusal} → r ≡ begins → r ≡ Refuse x → turned_down s p area output [] x ≡ careful_both s p area boards output
+  pub careful-refuses : {r : Check} {x : Refusal} → r ≡ begins → r ≡ Err x → turned_down s p area output [] x ≡ careful_both s p area boards output
   unfolding careful_both
   careful-refuses e h = refused-by (turned_down s p area output []) (beside p (careful_done s area boards output)) (refuses agrees in-turn e h) refl
 
-  module _ (r : Check) (begun : r ≡ begins) (passed : r ≡ Pass) where
+  module _ (r : Check) (begun : r ≡ begins) (passed : r ≡ Ok tt) where
     -- no file qualifies
     pub careful-disagrees : (out : List ℕ) → given (careful_file s area boards) ≡ false → out ≡ output
         → turned_down s p area out [] Disagree ≡ careful_both s p area boards output

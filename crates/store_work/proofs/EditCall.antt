@@ -11,9 +11,8 @@ use Rattle.lists.specs.Tests.{given}
 use Rattle.lists.proofs.Tests.{not-no}
 use Rattle.sizes.specs.declared.Refusal.{Refusal}
 use Rattle.sizes.specs.declared.Refusal.TheVariants.{Size, Area, Count, Node, Repeat, Empty, Down, Disagree}
-use Rattle.sizes.specs.declared.Check.{Check}
-use Rattle.sizes.specs.declared.Check.TheVariants.{Pass, Refuse}
-use Rattle.sizes.specs.Refusals.{◌when◌, first, store_order}
+use Rattle.std.specs.Prelude.{Ok, Err}
+use Rattle.sizes.specs.Refusals.{◌when◌, first, store_order, Check}
 use Rattle.sizes.specs.Sizing.{B}
 use Rattle.sizes.proofs.Orders.{clear-off}
 use Rattle.board_spec.specs.Calls.{file_of}
@@ -38,25 +37,25 @@ module _ (s : Record) (area : List ℕ) (offset : ℕ) (bytes boards : List ℕ)
   abbrev alone : Check
   alone = first store_order (edit_lines s area offset bytes boards)
 
-  pub edit-readable : alone ≡ Pass → Readable s (length area) boards
+  pub edit-readable : alone ≡ Ok tt → Readable s (length area) boards
   edit-readable h = readable s (length area) boards (edit-facts s area offset bytes boards h).0
 
-  pub edit-fits : alone ≡ Pass → offset + length bytes ≤ s.capacity * B s.sizes
+  pub edit-fits : alone ≡ Ok tt → offset + length bytes ≤ s.capacity * B s.sizes
   edit-fits h = let f = edit-facts s area offset bytes boards h in omega (arith, f.1, (sound-facts s f.0.is-sound).fits)
 
   -- a record that passes has a file
   abbrev pub filed : Bool → Record
   filed written = record_of s.sizes s.points s.capacity written s.length s.marks
 
-  pub edit-written : alone ≡ Pass → first store_order (edit_lines (filed true) area offset bytes boards) ≡ Pass
+  pub edit-written : alone ≡ Ok tt → first store_order (edit_lines (filed true) area offset bytes boards) ≡ Ok tt
   edit-written h =
-      subst (λ (w : Bool). first store_order (edit_lines (filed w) area offset bytes boards) ≡ Pass) (edit-facts s area offset bytes boards h).0.is-written h
+      subst (λ (w : Bool). first store_order (edit_lines (filed w) area offset bytes boards) ≡ Ok tt) (edit-facts s area offset bytes boards h).0.is-written h
 
   -- the area that it leaves
   abbrev pub changed : Record → List ℕ
   changed t = put_shares t (edited_share t area (file_of (file_held t area boards)) offset bytes) (serving t) area
 
-  pub edit-changes : (after : List ℕ) → alone ≡ Pass → after ≡ changed (filed true) → after ≡ (edit_done s area offset bytes boards).area
+  pub edit-changes : (after : List ℕ) → alone ≡ Ok tt → after ≡ changed (filed true) → after ≡ (edit_done s area offset bytes boards).area
   edit-changes after h e = e ∙ ap (λ (w : Bool). changed (filed w)) (sym (edit-facts s area offset bytes boards h).0.is-written)
 
 module _ (s : Record) (p : Running) (area : List ℕ) (offset : ℕ) (bytes boards : List ℕ) where
@@ -74,19 +73,19 @@ module _ (s : Record) (p : Running) (area : List ℕ) (offset : ℕ) (bytes boar
   unfolding edit_lines_both edit_lines
   in-turn = sym (split (asked_lines s p (length area) offset (length bytes) boards) (Disagree when not (given (file_held s area boards)) ∷ []))
 
-  pub edit-refuses : {r : Check} {x : Refusal} → r ≡ begins → r ≡ Refuse x → turned_down s p area [] [] x ≡ edit_both s p area offset bytes boards
+  pub edit-refuses : {r : Check} {x : Refusal} → r ≡ begins → r ≡ Err x → turned_down s p area [] [] x ≡ edit_both s p area offset bytes boards
   unfolding edit_both
   edit-refuses e h = refused-by (turned_down s p area [] []) (beside p (edit_done s area offset bytes boards)) (refuses agrees in-turn e h) refl
 
-  pub edit-disagrees : {r q : Check} {x : Refusal} → r ≡ begins → r ≡ Pass → q ≡ agrees → q ≡ Refuse x → turned_down s p area [] [] x ≡ edit_both s p area offset bytes boards
+  pub edit-disagrees : {r q : Check} {x : Refusal} → r ≡ begins → r ≡ Ok tt → q ≡ agrees → q ≡ Err x → turned_down s p area [] [] x ≡ edit_both s p area offset bytes boards
   unfolding edit_both
   edit-disagrees e h d k = refused-by (turned_down s p area [] []) (beside p (edit_done s area offset bytes boards)) (d ∙ goes-on in-turn e h) k
 
-  pub edit-passes : {r q : Check} → r ≡ begins → r ≡ Pass → q ≡ agrees → q ≡ Pass → checked ≡ Pass
+  pub edit-passes : {r q : Check} → r ≡ begins → r ≡ Ok tt → q ≡ agrees → q ≡ Ok tt → checked ≡ Ok tt
   edit-passes e h d k = sym (d ∙ goes-on in-turn e h) ∙ k
 
   -- what the lines before DISAGREE told
-  pub edit-asks : begins ≡ Pass → Readable s (length area) boards
+  pub edit-asks : begins ≡ Ok tt → Readable s (length area) boards
   edit-asks h =
       let off = clear-off (asked_lines s p (length area) offset (length bytes) boards) store_order h in
       readable s (length area) boards
@@ -94,7 +93,7 @@ module _ (s : Record) (p : Running) (area : List ℕ) (offset : ℕ) (bytes boar
       (off Repeat refl) (off Down refl))
 
   -- the call alone passes too
-  pub edit-alone : checked ≡ Pass → first store_order (edit_lines s area offset bytes boards) ≡ Pass
+  pub edit-alone : checked ≡ Ok tt → first store_order (edit_lines s area offset bytes boards) ≡ Ok tt
   unfolding edit_lines_both edit_lines
   edit-alone h = (alone-busy s p p.running (drop 1 (edit_lines s area offset bytes boards)) refl h).0
 
@@ -102,6 +101,6 @@ module _ (s : Record) (p : Running) (area : List ℕ) (offset : ℕ) (bytes boar
   abbrev pub left : List ℕ → Outcome
   left after = beside p (accepted 0 s after [])
 
-  pub edit-works : (after : List ℕ) → checked ≡ Pass → after ≡ (edit_done s area offset bytes boards).area → left after ≡ edit_both s p area offset bytes boards
+  pub edit-works : (after : List ℕ) → checked ≡ Ok tt → after ≡ (edit_done s area offset bytes boards).area → left after ≡ edit_both s p area offset bytes boards
   unfolding edit_both
   edit-works after h e = ap left e ∙ done-by (turned_down s p area [] []) (beside p (edit_done s area offset bytes boards)) h

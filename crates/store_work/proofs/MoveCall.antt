@@ -8,9 +8,8 @@ use native.Mathlib.Omega.{arith}
 use lib.ListN.{length, drop}
 use Rattle.lists.proofs.Boards.{below_all}
 use Rattle.sizes.specs.declared.Refusal.{Refusal}
-use Rattle.sizes.specs.declared.Check.{Check}
-use Rattle.sizes.specs.declared.Check.TheVariants.{Pass, Refuse}
-use Rattle.sizes.specs.Refusals.{first, store_order}
+use Rattle.std.specs.Prelude.{Ok, Err}
+use Rattle.sizes.specs.Refusals.{first, store_order, Check}
 use Rattle.sizes.proofs.Legal.{legal-facts}
 use Rattle.store_spec.specs.Record.{Record, stripe_count}
 use Rattle.store_spec.specs.Packets.{total}
@@ -30,17 +29,17 @@ module _ (s : Record) (area : List ℕ) (board new : ℕ) (helpers partners : Li
   abbrev alone : Check
   alone = first store_order (move_lines s (length area) board new helpers partners)
 
-  facts : alone ≡ Pass → Moves s (length area) board new helpers partners
+  facts : alone ≡ Ok tt → Moves s (length area) board new helpers partners
   facts h = move-facts s (length area) board new helpers partners h
 
-  pub move-ready : alone ≡ Pass → Ready s
+  pub move-ready : alone ≡ Ok tt → Ready s
   move-ready h = ready s (facts h).is-sound
 
   -- some board is rebuilt, and the board has a point
-  pub move_some : alone ≡ Pass → 1 ≤ s.sizes.r
+  pub move_some : alone ≡ Ok tt → 1 ≤ s.sizes.r
   move_some h = (legal-facts _ (sound-facts s (facts h).is-sound).is-legal).some-fresh
 
-  pub move-known : alone ≡ Pass → board < 32
+  pub move-known : alone ≡ Ok tt → board < 32
   move-known h =
       let f = facts h in
       omega (arith, (below_all s.sizes.n (board ∷ (helpers ++ partners)) f.named-below).0, (legal-facts _ (sound-facts s f.is-sound).is-legal).few)
@@ -48,7 +47,7 @@ module _ (s : Record) (area : List ℕ) (board new : ℕ) (helpers partners : Li
   abbrev bytes : ℕ → ℕ
   bytes count = count * 1 * (2 * s.sizes.d + s.sizes.r - 1)
 
-  pub move-moves : (moved count : ℕ) → alone ≡ Pass → count ≡ stripe_count s → moved ≡ bytes count → moved ≡ total (move_packets s area board new helpers partners)
+  pub move-moves : (moved count : ℕ) → alone ≡ Ok tt → count ≡ stripe_count s → moved ≡ bytes count → moved ≡ total (move_packets s area board new helpers partners)
   move-moves moved count h ec eb =
       eb ∙ ap bytes ec
       ∙ ap (λ (m : ℕ). m * (2 * s.sizes.d + s.sizes.r - 1)) (mul-one (stripe_count s))
@@ -58,12 +57,12 @@ module _ (s : Record) (p : Running) (area : List ℕ) (board new : ℕ) (helpers
   abbrev pub checked : Check
   checked = first store_order (move_lines_both s p (length area) board new helpers partners)
 
-  pub move-refuses : {r : Check} {x : Refusal} → r ≡ checked → r ≡ Refuse x → turned_down s p area [] [] x ≡ move_both s p area board new helpers partners
+  pub move-refuses : {r : Check} {x : Refusal} → r ≡ checked → r ≡ Err x → turned_down s p area [] [] x ≡ move_both s p area board new helpers partners
   unfolding move_both
   move-refuses e h = refused-by (turned_down s p area [] []) (beside p (move_done s area board new helpers partners)) e h
 
   -- the call alone passes too
-  pub move-alone : checked ≡ Pass → first store_order (move_lines s (length area) board new helpers partners) ≡ Pass
+  pub move-alone : checked ≡ Ok tt → first store_order (move_lines s (length area) board new helpers partners) ≡ Ok tt
   unfolding move_lines_both move_lines
   move-alone h = (alone-busy s p p.running (drop 1 (move_lines s (length area) board new helpers partners)) refl h).0
 
@@ -71,7 +70,7 @@ module _ (s : Record) (p : Running) (area : List ℕ) (board new : ℕ) (helpers
   abbrev pub carried : ℕ → List ℕ → Outcome
   carried moved after = beside p (accepted moved (moved_record s board new) after [])
 
-  pub move-works : (after : List ℕ) (moved : ℕ) → checked ≡ Pass → moved ≡ total (move_packets s area board new helpers partners)
+  pub move-works : (after : List ℕ) (moved : ℕ) → checked ≡ Ok tt → moved ≡ total (move_packets s area board new helpers partners)
       → after ≡ (move_done s area board new helpers partners).area → carried moved after ≡ move_both s p area board new helpers partners
   unfolding move_both
   move-works after moved h eb ea = ap₂ carried eb ea ∙ done-by (turned_down s p area [] []) (beside p (move_done s area board new helpers partners)) h

@@ -11,9 +11,8 @@ use Rattle.lists.specs.Tests.{given}
 use Rattle.lists.proofs.Tests.{not-no}
 use Rattle.sizes.specs.declared.Refusal.{Refusal}
 use Rattle.sizes.specs.declared.Refusal.TheVariants.{Size, Area, Count, Node, Repeat, Empty, Down, Disagree}
-use Rattle.sizes.specs.declared.Check.{Check}
-use Rattle.sizes.specs.declared.Check.TheVariants.{Pass, Refuse}
-use Rattle.sizes.specs.Refusals.{◌when◌, first, store_order}
+use Rattle.std.specs.Prelude.{Ok, Err}
+use Rattle.sizes.specs.Refusals.{◌when◌, first, store_order, Check}
 use Rattle.sizes.proofs.Legal.{legal-facts}
 use Rattle.sizes.proofs.Orders.{clear-off}
 use Rattle.mbcr.specs.Read.{decoded_file}
@@ -37,10 +36,10 @@ use Rattle.store_work.proofs.Settled.{refused-by, done-by}
 
 -- the work alone, of a read that passes
 module _ (s : Record) (area boards output : List ℕ) where
-  pub read-readable : first store_order (read_lines s area boards output) ≡ Pass → Readable s (length area) boards
+  pub read-readable : first store_order (read_lines s area boards output) ≡ Ok tt → Readable s (length area) boards
   read-readable h = readable s (length area) boards (read-facts s area boards output h).0
 
-  pub read-room : first store_order (read_lines s area boards output) ≡ Pass → s.length ≤ length output
+  pub read-room : first store_order (read_lines s area boards output) ≡ Ok tt → s.length ≤ length output
   read-room h = (read-facts s area boards output h).1
 
   -- the bytes that these boards' shares decode to, before the rest of the output
@@ -49,7 +48,7 @@ module _ (s : Record) (area boards output : List ℕ) where
       decoded_file s.sizes s.points s.length boards (joined (held (record_of s.sizes [] s.capacity true s.length []) area) boards)
       ++ drop s.length output
 
-  pub read-decodes : (written : List ℕ) → first store_order (read_lines s area boards output) ≡ Pass → written ≡ decoded
+  pub read-decodes : (written : List ℕ) → first store_order (read_lines s area boards output) ≡ Ok tt → written ≡ decoded
       → written ≡ (read_done s area boards output).output
   read-decodes written h e =
       let z = s.sizes in
@@ -78,20 +77,20 @@ module _ (s : Record) (p : Running) (area boards output : List ℕ) where
   unfolding read_lines_both read_lines
   in-turn = sym (split (asked_lines s p (length area) boards output) (Disagree when not (given (file_held s area boards)) ∷ []))
 
-  pub read-refuses : {r : Check} {x : Refusal} → r ≡ begins → r ≡ Refuse x → turned_down s p area output [] x ≡ read_both s p area boards output
+  pub read-refuses : {r : Check} {x : Refusal} → r ≡ begins → r ≡ Err x → turned_down s p area output [] x ≡ read_both s p area boards output
   unfolding read_both
   read-refuses e h = refused-by (turned_down s p area output []) (beside p (read_done s area boards output)) (refuses agrees in-turn e h) refl
 
-  pub read-disagrees : {r q : Check} {x : Refusal} → r ≡ begins → r ≡ Pass → q ≡ agrees → q ≡ Refuse x
+  pub read-disagrees : {r q : Check} {x : Refusal} → r ≡ begins → r ≡ Ok tt → q ≡ agrees → q ≡ Err x
       → turned_down s p area output [] x ≡ read_both s p area boards output
   unfolding read_both
   read-disagrees e h d k = refused-by (turned_down s p area output []) (beside p (read_done s area boards output)) (d ∙ goes-on in-turn e h) k
 
-  pub read-passes : {r q : Check} → r ≡ begins → r ≡ Pass → q ≡ agrees → q ≡ Pass → checked ≡ Pass
+  pub read-passes : {r q : Check} → r ≡ begins → r ≡ Ok tt → q ≡ agrees → q ≡ Ok tt → checked ≡ Ok tt
   read-passes e h d k = sym (d ∙ goes-on in-turn e h) ∙ k
 
   -- what the lines before DISAGREE told
-  pub read-asks : begins ≡ Pass → Readable s (length area) boards
+  pub read-asks : begins ≡ Ok tt → Readable s (length area) boards
   read-asks h =
       let off = clear-off (asked_lines s p (length area) boards output) store_order h in
       readable s (length area) boards
@@ -99,7 +98,7 @@ module _ (s : Record) (p : Running) (area boards output : List ℕ) where
       (off Repeat refl) (off Down refl))
 
   -- the call alone passes too
-  pub read-alone : checked ≡ Pass → first store_order (read_lines s area boards output) ≡ Pass
+  pub read-alone : checked ≡ Ok tt → first store_order (read_lines s area boards output) ≡ Ok tt
   unfolding read_lines_both read_lines
   read-alone h = alone s p (drop 1 (read_lines s area boards output)) h
 
@@ -107,6 +106,6 @@ module _ (s : Record) (p : Running) (area boards output : List ℕ) where
   abbrev pub filled : List ℕ → Outcome
   filled bytes = beside p (accepted 0 s area bytes)
 
-  pub read-works : (written : List ℕ) → checked ≡ Pass → written ≡ (read_done s area boards output).output → filled written ≡ read_both s p area boards output
+  pub read-works : (written : List ℕ) → checked ≡ Ok tt → written ≡ (read_done s area boards output).output → filled written ≡ read_both s p area boards output
   unfolding read_both
   read-works written h e = ap filled e ∙ done-by (turned_down s p area output []) (beside p (read_done s area boards output)) h

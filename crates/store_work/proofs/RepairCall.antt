@@ -7,10 +7,9 @@ use mathlib.Core.List.{List, []}
 use lib.ListN.{length, get_or, drop}
 use Rattle.lists.specs.Lists.{join, piece}
 use Rattle.sizes.specs.declared.Refusal.{Refusal}
-use Rattle.sizes.specs.declared.Check.{Check}
-use Rattle.sizes.specs.declared.Check.TheVariants.{Pass, Refuse}
+use Rattle.std.specs.Prelude.{Ok, Err}
 use Rattle.sizes.specs.Sizing.{α}
-use Rattle.sizes.specs.Refusals.{first, store_order}
+use Rattle.sizes.specs.Refusals.{first, store_order, Check}
 use Rattle.store_spec.specs.Record.{Record, stripe_count, part_len, with_marks, turn_on}
 use Rattle.store_spec.specs.Packets.{repair_packets, total}
 use Rattle.store_spec.specs.Calls.{accepted, settle, list_lines, repair_lines, repair_done, repair_call, refused}
@@ -32,7 +31,7 @@ module _ (s : Record) (area fresh helpers stand_ins : List ℕ) where
   abbrev alone : Check
   alone = first store_order (repair_lines s (length area) fresh helpers stand_ins)
 
-  pub repair-repairable : alone ≡ Pass → Repairable s (length area) fresh helpers stand_ins
+  pub repair-repairable : alone ≡ Ok tt → Repairable s (length area) fresh helpers stand_ins
   repair-repairable h = repairable s (length area) fresh helpers stand_ins (repair-facts s (length area) fresh helpers stand_ins h)
 
   -- stripe t of the a-th fresh board
@@ -43,7 +42,7 @@ module _ (s : Record) (area fresh helpers stand_ins : List ℕ) where
   abbrev pub restored : ℕ → List ℕ
   restored count = puts (λ a. get_or fresh a 0 * part_len s) (λ a. join count (stripe a)) (length fresh) area
 
-  pub repair-rebuilds : (after : List ℕ) (count : ℕ) → alone ≡ Pass → count ≡ stripe_count s → after ≡ restored count
+  pub repair-rebuilds : (after : List ℕ) (count : ℕ) → alone ≡ Ok tt → count ≡ stripe_count s → after ≡ restored count
       → after ≡ (repair_done s area fresh helpers stand_ins).area
   unfolding repair_call
   repair-rebuilds after count h ec ea =
@@ -54,7 +53,7 @@ module _ (s : Record) (area fresh helpers stand_ins : List ℕ) where
   abbrev bytes : ℕ → ℕ
   bytes count = count * length fresh * (2 * s.sizes.d + s.sizes.r - 1)
 
-  pub repair-moves : (moved count : ℕ) → alone ≡ Pass → count ≡ stripe_count s → moved ≡ bytes count → moved ≡ total (repair_packets s area fresh helpers stand_ins)
+  pub repair-moves : (moved count : ℕ) → alone ≡ Ok tt → count ≡ stripe_count s → moved ≡ bytes count → moved ≡ total (repair_packets s area fresh helpers stand_ins)
   repair-moves moved count h ec eb =
       let f = repair-facts s (length area) fresh helpers stand_ins h in
       let legal = (sound-facts s f.is-sound).is-legal in
@@ -64,24 +63,24 @@ module _ (s : Record) (p : Running) (area fresh helpers stand_ins : List ℕ) wh
   abbrev pub checked : Check
   checked = first store_order (repair_lines_both s p (length area) fresh helpers stand_ins)
 
-  pub repair-refuses : {r : Check} {x : Refusal} → r ≡ checked → r ≡ Refuse x → turned_down s p area [] [] x ≡ repair_both s p area fresh helpers stand_ins
+  pub repair-refuses : {r : Check} {x : Refusal} → r ≡ checked → r ≡ Err x → turned_down s p area [] [] x ≡ repair_both s p area fresh helpers stand_ins
   unfolding repair_both
   repair-refuses e h = refused-by (turned_down s p area [] []) (beside p (repair_done s area fresh helpers stand_ins)) e h
 
   -- the call alone passes too
-  pub repair-alone : checked ≡ Pass → first store_order (repair_lines s (length area) fresh helpers stand_ins) ≡ Pass
+  pub repair-alone : checked ≡ Ok tt → first store_order (repair_lines s (length area) fresh helpers stand_ins) ≡ Ok tt
   unfolding repair_lines_both repair_lines list_lines
   repair-alone h = (alone-busy s p p.running (drop 1 (repair_lines s (length area) fresh helpers stand_ins)) refl h).0
 
   -- what the check told
-  pub repair-asks : checked ≡ Pass → Repairable s (length area) fresh helpers stand_ins
+  pub repair-asks : checked ≡ Ok tt → Repairable s (length area) fresh helpers stand_ins
   repair-asks h = repair-repairable s area fresh helpers stand_ins (repair-alone h)
 
   -- what a repair hands on with this answer, these marks and this area
   abbrev pub mended : ℕ → List Bool → List ℕ → Outcome
   mended moved marks after = beside p (accepted moved (with_marks s marks) after [])
 
-  pub repair-works : (after : List ℕ) (marks : List Bool) (moved : ℕ) → checked ≡ Pass → moved ≡ total (repair_packets s area fresh helpers stand_ins)
+  pub repair-works : (after : List ℕ) (marks : List Bool) (moved : ℕ) → checked ≡ Ok tt → moved ≡ total (repair_packets s area fresh helpers stand_ins)
       → marks ≡ turn_on fresh s.marks → after ≡ (repair_done s area fresh helpers stand_ins).area → mended moved marks after ≡ repair_both s p area fresh helpers stand_ins
   unfolding repair_both
   repair-works after marks moved h eb em ea =
@@ -94,10 +93,10 @@ module _ (s : Record) (p : Running) (area fresh helpers stand_ins : List ℕ) wh
   abbrev begun : Running → Outcome
   begun q = beside q (accepted 0 s area [])
 
-  pub start-refuses : {r : Check} {x : Refusal} → r ≡ checked → r ≡ Refuse x → turned_down s p area [] [] x ≡ start_call s p area fresh helpers stand_ins
+  pub start-refuses : {r : Check} {x : Refusal} → r ≡ checked → r ≡ Err x → turned_down s p area [] [] x ≡ start_call s p area fresh helpers stand_ins
   unfolding start_call
   start-refuses e h = refused-by (turned_down s p area [] []) (begun (running_by fresh helpers stand_ins 0)) e h
 
-  pub start-works : (q : Running) → checked ≡ Pass → q ≡ running_by fresh helpers stand_ins 0 → begun q ≡ start_call s p area fresh helpers stand_ins
+  pub start-works : (q : Running) → checked ≡ Ok tt → q ≡ running_by fresh helpers stand_ins 0 → begun q ≡ start_call s p area fresh helpers stand_ins
   unfolding start_call
   start-works q h e = ap begun e ∙ done-by (turned_down s p area [] []) (begun (running_by fresh helpers stand_ins 0)) h

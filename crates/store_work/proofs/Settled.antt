@@ -10,10 +10,9 @@ use lib.ListN.{length, drop}
 use Rattle.lists.specs.Lists.{tabulate, put}
 use Rattle.sizes.specs.declared.Sizes.{Sizes}
 use Rattle.sizes.specs.declared.Refusal.{Refusal}
-use Rattle.sizes.specs.declared.Check.{Check}
-use Rattle.sizes.specs.declared.Check.TheVariants.{Pass, Refuse}
+use Rattle.std.specs.Prelude.{Ok, Err}
 use Rattle.sizes.specs.Sizing.{legal}
-use Rattle.sizes.specs.Refusals.{first, store_order}
+use Rattle.sizes.specs.Refusals.{first, store_order, Check}
 use Rattle.sizes.proofs.Legal.{legal-facts}
 use Rattle.mbcr.specs.Share.{share}
 use Rattle.store_spec.specs.Record.{Record, new_record, written_record, part_len, put_shares}
@@ -28,10 +27,10 @@ use Rattle.sizes.proofs.Orders.{clear-off}
 use Rattle.store_work.specs.Handing.{turned_down}
 
 -- a call whose check answers r: where that is a refusal, and where the check passes
-pub refused-by : {c r : Check} {x : Refusal} (out : Refusal → Outcome) (done : Outcome) → r ≡ c → r ≡ Refuse x → out x ≡ settle c out done
+pub refused-by : {c r : Check} {x : Refusal} (out : Refusal → Outcome) (done : Outcome) → r ≡ c → r ≡ Err x → out x ≡ settle c out done
 refused-by out done e h = sym (ap (λ (k : Check). settle k out done) (sym e ∙ h))
 
-pub done-by : {c : Check} (out : Refusal → Outcome) (done : Outcome) → c ≡ Pass → done ≡ settle c out done
+pub done-by : {c : Check} (out : Refusal → Outcome) (done : Outcome) → c ≡ Ok tt → done ≡ settle c out done
 done-by out done e = sym (ap (λ (k : Check). settle k out done) e)
 
 -- ---- set up
@@ -44,11 +43,11 @@ module _ (s : Record) (p : Running) (z : Sizes) (xs : List ℕ) (c : ℕ) where
   abbrev pub new : Record → Running → Outcome
   new s p = beside p (accepted 0 s [] [])
 
-  pub set-up-refuses : {r : Check} {x : Refusal} → r ≡ begun → r ≡ Refuse x → turned_down s p [] [] [] x ≡ set_up_both s p z xs c
+  pub set-up-refuses : {r : Check} {x : Refusal} → r ≡ begun → r ≡ Err x → turned_down s p [] [] [] x ≡ set_up_both s p z xs c
   unfolding set_up_both
   set-up-refuses e h = refused-by (turned_down s p [] [] []) (new (new_record z xs c) idle) e h
 
-  pub set-up-works : begun ≡ Pass → new (new_record z xs c) idle ≡ set_up_both s p z xs c
+  pub set-up-works : begun ≡ Ok tt → new (new_record z xs c) idle ≡ set_up_both s p z xs c
   unfolding set_up_both
   set-up-works e = done-by (turned_down s p [] [] []) (new (new_record z xs c) idle) e
 
@@ -61,28 +60,28 @@ module _ (s : Record) (p : Running) (board : ℕ) where
   abbrev without : List ℕ → Running → Outcome
   without area q = beside q (lose_done s area board)
 
-  pub lose-refuses : {r : Check} {x : Refusal} → r ≡ lost → r ≡ Refuse x → (area : List ℕ) → turned_down s p area [] [] x ≡ lose_both s p area board
+  pub lose-refuses : {r : Check} {x : Refusal} → r ≡ lost → r ≡ Err x → (area : List ℕ) → turned_down s p area [] [] x ≡ lose_both s p area board
   unfolding lose_both
   lose-refuses e h area = refused-by (turned_down s p area [] []) (without area (lost_beside s p board)) e h
 
-  pub lose-works : (q : Running) → lost ≡ Pass → q ≡ lost_beside s p board → (area : List ℕ) → without area q ≡ lose_both s p area board
+  pub lose-works : (q : Running) → lost ≡ Ok tt → q ≡ lost_beside s p board → (area : List ℕ) → without area q ≡ lose_both s p area board
   unfolding lose_both
   lose-works q h e area = ap (without area) e ∙ done-by (turned_down s p area [] []) (without area (lost_beside s p board)) h
 
-  lose-alone : lost ≡ Pass → first store_order (lose_lines s board) ≡ Pass
+  lose-alone : lost ≡ Ok tt → first store_order (lose_lines s board) ≡ Ok tt
   unfolding lose_lines_both lose_lines
   lose-alone h = alone s p (drop 1 (lose_lines s board)) h
 
   -- what the loss of a board from a started repair asks
-  pub lose-beside : lost ≡ Pass → sound_beside s p ≡ true
+  pub lose-beside : lost ≡ Ok tt → sound_beside s p ≡ true
   unfolding lose_lines_both lose_lines
   lose-beside h = (both_facts s p (clear-off (lose_lines_both s p board) store_order h Size refl)).1
 
   -- the board has a mark
-  pub lose-marked : lost ≡ Pass → board < 32
+  pub lose-marked : lost ≡ Ok tt → board < 32
   lose-marked h = let f = lose-facts s board (lose-alone h) in omega (arith, f.known, (legal-facts _ (sound-facts s f.is-sound).is-legal).few)
 
-  pub lose-legal : lost ≡ Pass → legal s.sizes ≡ true
+  pub lose-legal : lost ≡ Ok tt → legal s.sizes ≡ true
   lose-legal h = (sound-facts s (lose-facts s board (lose-alone h)).is-sound).is-legal
 
 -- ---- write
@@ -97,12 +96,12 @@ module _ (s : Record) (p : Running) (area file : List ℕ) where
   abbrev pub checked : Check
   checked = first store_order (write_lines_both s p (length area) file)
 
-  pub write-refuses : {r : Check} {x : Refusal} → r ≡ checked → r ≡ Refuse x → turned_down s p area [] [] x ≡ write_both s p area file
+  pub write-refuses : {r : Check} {x : Refusal} → r ≡ checked → r ≡ Err x → turned_down s p area [] [] x ≡ write_both s p area file
   unfolding write_both
   write-refuses e h = refused-by (turned_down s p area [] []) (beside p (write_done s area file)) e h
 
   -- the call alone passes too
-  pub write_alone : checked ≡ Pass → first store_order (write_lines s (length area) file) ≡ Pass
+  pub write_alone : checked ≡ Ok tt → first store_order (write_lines s (length area) file) ≡ Ok tt
   unfolding write_lines_both write_lines
   write_alone h = (alone-busy s p p.running (drop 1 (write_lines s (length area) file)) refl h).0
 
@@ -114,7 +113,7 @@ module _ (s : Record) (p : Running) (area file : List ℕ) where
   abbrev pub shared : List ℕ
   shared = put_shares (record_of s.sizes [] s.capacity true 0 []) (share s.sizes s.points file) (tabulate s.sizes.n (λ i. i)) area
 
-  pub write-works : (marks : List Bool) (after : List ℕ) → checked ≡ Pass → marks ≡ tabulate 32 (λ i. ltb i s.sizes.n) → after ≡ shared
+  pub write-works : (marks : List Bool) (after : List ℕ) → checked ≡ Ok tt → marks ≡ tabulate 32 (λ i. ltb i s.sizes.n) → after ≡ shared
       → made marks after ≡ write_both s p area file
   unfolding write_both
   write-works marks after h em ea =

@@ -5,9 +5,8 @@ use mathlib.Core.Path.{◌≡◌, ◌∙◌}
 use mathlib.Core.List.{List, []}
 use lib.ListN.{length}
 use Rattle.sizes.specs.declared.Refusal.{Refusal}
-use Rattle.sizes.specs.declared.Check.{Check}
-use Rattle.sizes.specs.declared.Check.TheVariants.{Pass, Refuse}
-use Rattle.sizes.specs.Refusals.{first, store_order}
+use Rattle.std.specs.Prelude.{Ok, Err}
+use Rattle.sizes.specs.Refusals.{first, store_order, Check}
 use Rattle.store_spec.specs.Record.{Record}
 use Rattle.beside_spec.specs.Running.{Running}
 use Rattle.beside_spec.specs.Both.{Outcome, step_lines, step_done, step_call}
@@ -18,10 +17,10 @@ module _ (s : Record) (p : Running) (area packets : List ℕ) where
   abbrev pub checked : Check
   checked = first store_order (step_lines s p (length area) (length packets))
 
-  pub step-refuses : (allowance : ℕ) {r : Check} {x : Refusal} → r ≡ checked → r ≡ Refuse x → turned_down s p area [] packets x ≡ step_call s p area packets allowance
+  pub step-refuses : (allowance : ℕ) {r : Check} {x : Refusal} → r ≡ checked → r ≡ Err x → turned_down s p area [] packets x ≡ step_call s p area packets allowance
   unfolding step_call
   step-refuses allowance e h = refused-by (turned_down s p area [] packets) (step_done s p area packets allowance) e h
 
-  pub step-works : (allowance : ℕ) {o : Outcome} → checked ≡ Pass → o ≡ step_done s p area packets allowance → o ≡ step_call s p area packets allowance
+  pub step-works : (allowance : ℕ) {o : Outcome} → checked ≡ Ok tt → o ≡ step_done s p area packets allowance → o ≡ step_call s p area packets allowance
   unfolding step_call
   step-works allowance h e = e ∙ done-by (turned_down s p area [] packets) (step_done s p area packets allowance) h

@@ -3,9 +3,8 @@
 
 #![tactic(auto)]
 
-ghost use Rattle.std.specs.Prelude.{◌≡◌, not, ◌+◌, ◌*◌, ◌-◌, ◌≤◌, length};
+ghost use Rattle.std.specs.Prelude.{◌≡◌, not, ◌+◌, ◌*◌, ◌-◌, ◌≤◌, length, Ok};
 ghost use Rattle.lists.specs.Tests.{given};
-ghost use Rattle.sizes.specs.declared.Check.TheVariants.{Pass};
 ghost use Rattle.sizes.specs.declared.Refusal.TheVariants.{Disagree};
 ghost use Rattle.sizes.specs.Refusals.{◌when◌, first, store_order};
 ghost use Rattle.line_checks.specs.Steps.{asked};
@@ -20,7 +19,7 @@ ghost use Rattle.record.specs.Records.{record_of};
 ghost use Rattle.store_work.specs.Steps.{Readable};
 
 use record::Kept;
-use sizes::{Check, Sizes};
+use sizes::{Refusal, Sizes};
 
 // The bytes that a repair of so many stripes of t fresh boards moves.
 fn bytes_moved(sizes: Sizes, t: usize, stripes: usize) -> usize
@@ -38,7 +37,7 @@ pub fn rebuild(
     standins: &[usize],
     area: &mut [u8],
 ) -> usize
-    requires { first store_order (repair_lines (record_of kept) (length area.old) fresh.now helpers.now standins.now) ≡ Pass }
+    requires { first store_order (repair_lines (record_of kept) (length area.old) fresh.now helpers.now standins.now) ≡ Ok tt }
     ensures value { result ≡ total (repair_packets (record_of kept) area.old fresh.now helpers.now standins.now) }
     ensures area_after { area.new ≡ (repair_done (record_of kept) area.old fresh.now helpers.now standins.now).area }
 {
@@ -70,7 +69,7 @@ pub fn move_one(
     partners: &[usize],
     area: &mut [u8],
 ) -> usize
-    requires { first store_order (move_lines (record_of kept) (length area.old) board point helpers.now partners.now) ≡ Pass }
+    requires { first store_order (move_lines (record_of kept) (length area.old) board point helpers.now partners.now) ≡ Ok tt }
     ensures value { result ≡ total (move_packets (record_of kept) area.old board point helpers.now partners.now) }
     ensures area_after { area.new ≡ (move_done (record_of kept) area.old board point helpers.now partners.now).area }
 {
@@ -90,7 +89,7 @@ pub fn fill_tables(kept: Kept, boards: &[usize], tables: &mut [u8])
 }
 
 // 10 DISAGREE, of k boards with their tables.
-pub fn check_agrees(kept: Kept, boards: &[usize], area: &[u8], tables: &[u8]) -> Check
+pub fn check_agrees(kept: Kept, boards: &[usize], area: &[u8], tables: &[u8]) -> Result<(), Refusal>
     requires { Readable (record_of kept) (length area.now) boards.now × Made kept.sizes kept.points boards.now tables.now }
     ensures { result ≡ asked (Disagree when not (given (file_held (record_of kept) area.now boards.now))) }
 {
@@ -111,7 +110,7 @@ pub fn check_agrees(kept: Kept, boards: &[usize], area: &[u8], tables: &[u8]) ->
 
 // The file that k boards hold goes to the beginning of the output.
 pub fn read_file(kept: Kept, boards: &[usize], area: &[u8], tables: &[u8], out: &mut [u8])
-    requires { (first store_order (read_lines (record_of kept) area.now boards.now out.old) ≡ Pass) × Made kept.sizes kept.points boards.now tables.now }
+    requires { (first store_order (read_lines (record_of kept) area.now boards.now out.old) ≡ Ok tt) × Made kept.sizes kept.points boards.now tables.now }
     ensures { out.new ≡ (read_done (record_of kept) area.now boards.now out.old).output }
 {
     let sizes = kept.sizes;
@@ -139,7 +138,7 @@ pub fn edit_boards(
     tables: &[u8],
     area: &mut [u8],
 )
-    requires { (first store_order (edit_lines (record_of kept) area.old offset bytes.now boards.now) ≡ Pass) × Made kept.sizes kept.points boards.now tables.now }
+    requires { (first store_order (edit_lines (record_of kept) area.old offset bytes.now boards.now) ≡ Ok tt) × Made kept.sizes kept.points boards.now tables.now }
     ensures { area.new ≡ (edit_done (record_of kept) area.old offset bytes.now boards.now).area }
 {
     let sizes = kept.sizes;

@@ -23,12 +23,10 @@ fn put_boards(sizes: Sizes, part: usize, at: usize, values: &[u8], area: &mut [u
 {
     let n = sizes.n;
     let w = 2 * sizes.d + sizes.r - 1;
-    let mut i: usize = 0;
-    while i < n {
+    for i in 0..n {
         let from = i * part + at;
         let to = from + w;
         kept_bytes::keep(sizes, i, values, &mut area[from..to]);
-        i += 1;
     }
 }
 
@@ -66,10 +64,8 @@ fn write_stripes(
     requires { (legal sizes ≡ true) × (length tables.now ≡ 16384) × (part ≤ 253952) × (count ≤ 4096) × (count * α sizes ≤ part) × (length rows.old ≡ 992) × (length values.old ≡ 1024) × (length area.old ≡ sizes.n * part) }
     ensures { (points : List ℕ) → length points ≡ 32 → Tabled (power_rows points (sizes.d + sizes.r)) tables.now → area.new ≡ puts (λ i. i * part) (λ i. join count (λ s. kept sizes points (stripe sizes file.now s) i)) sizes.n area.old }
 {
-    let mut s: usize = 0;
-    while s < count {
+    for s in 0..count {
         write_stripe(sizes, tables, part, file, s, rows, values, area);
-        s += 1;
     }
 }
 

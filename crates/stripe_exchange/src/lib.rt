@@ -21,13 +21,10 @@ pub fn received(sizes: Sizes, stripes: usize, b: usize, s: usize, packets: &[u8]
     requires { (b < 2) × (s < stripes) × (stripes ≤ 4096) × (length packets.now ≡ sizes.d * (2 * stripes)) × (length out.old ≡ sizes.d) }
     ensures { out.new ≡ received sizes stripes b s packets.now }
 {
-    let d = sizes.d;
     let w = 2 * stripes;
-    let mut t: usize = 0;
-    while t < d {
+    for t in 0..sizes.d {
         let at = t * w + (s * 2 + b);
         out[t] = packets[at];
-        t += 1;
     }
 }
 
@@ -36,12 +33,9 @@ pub fn exchanged(sizes: Sizes, stripes: usize, s: usize, exchanges: &[u8], out: 
     requires { (1 ≤ sizes.r) × (s < stripes) × (stripes ≤ 4096) × (length exchanges.now ≡ (sizes.r - 1) * stripes) × (length out.old ≡ sizes.r - 1) }
     ensures { out.new ≡ exchanged sizes stripes s exchanges.now }
 {
-    let m = sizes.r - 1;
-    let mut t: usize = 0;
-    while t < m {
+    for t in 0..sizes.r - 1 {
         let at = t * stripes + s;
         out[t] = exchanges[at];
-        t += 1;
     }
 }
 
@@ -69,10 +63,8 @@ fn exchange_bytes(sizes: Sizes, ff: &[u8], stripes: usize, packets: &[u8], out: 
     requires { (sizes.d ≤ 32) × (length ff.now ≤ 32) × (stripes ≤ 4096) × (length packets.now ≡ sizes.d * (2 * stripes)) × (stripes ≤ length out.old) }
     ensures { out.new ≡ tabulate stripes (λ s. dot_of ff.now (received sizes stripes 0 s packets.now)) ++ drop stripes out.old }
 {
-    let mut s: usize = 0;
-    while s < stripes {
+    for s in 0..stripes {
         out[s] = exchange_byte(sizes, ff, stripes, s, packets);
-        s += 1;
     }
 }
 

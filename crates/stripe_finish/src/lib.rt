@@ -15,11 +15,7 @@ pub fn copy_boards(a: &[usize], out: &mut [usize])
     ensures { out.new ≡ take (length out.old) a.now }
 {
     let n = out.len();
-    let mut j: usize = 0;
-    while j < n {
-        out[j] = a[j];
-        j += 1;
-    }
+    out.copy_from_slice(&a[0..n]);
 }
 
 // Helpers, partners and board i, one after another.

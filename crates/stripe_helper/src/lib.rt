@@ -60,8 +60,7 @@ fn pairs(d: usize, w: usize, ff: &[u8], gf: &[u8], stripes: usize, held: &[u8], 
     ensures { out.new ≡ join stripes (λ s. pair_by w ff.now gf.now (piece (w + d - 1) s held.now)) ++ drop (2 * stripes) out.old }
 {
     let a = w + d - 1;
-    let mut s: usize = 0;
-    while s < stripes {
+    for s in 0..stripes {
         let from = s * a;
         let to = from + a;
         let q = helper_pair(d, w, ff, gf, &held[from..to]);
@@ -69,7 +68,6 @@ fn pairs(d: usize, w: usize, ff: &[u8], gf: &[u8], stripes: usize, held: &[u8], 
         let next = at + 1;
         out[at] = q.first;
         out[next] = q.second;
-        s += 1;
     }
 }
 

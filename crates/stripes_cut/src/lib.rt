@@ -42,8 +42,7 @@ pub fn stripes_in(
 {
     let b = u.len();
     let len = out.len();
-    let mut s: usize = 0;
-    while s < count {
+    for s in 0..count {
         let at = s * b;
         let m = part_lengths::least(b, len - at);
         let end = at + m;
@@ -53,6 +52,5 @@ pub fn stripes_in(
             tp, rows, columns, u,
         );
         row_dots::copy(u, &mut out[at..end]);
-        s += 1;
     }
 }

@@ -16,10 +16,8 @@ pub fn power(x: u8, e: usize) -> u8
     ensures { result ≡ power x e }
 {
     let mut acc: u8 = 1;
-    let mut i: usize = 0;
-    while i < e {
+    for _ in 0..e {
         acc = interpolation::product(x, acc);
-        i += 1;
     }
     acc
 }
@@ -43,13 +41,10 @@ pub fn board_factors(sizes: Sizes, c: usize, b: usize, rows: &[u8], out: &mut [u
     ensures { out.new ≡ join (sizes.n - c) (λ o. fit 32 (tabulate c (λ t. cell rows.now t ((b + (c + o)) % sizes.n)))) }
 {
     let n = sizes.n;
-    let m = n - c;
-    let mut o: usize = 0;
-    while o < m {
+    for o in 0..n - c {
         let at = o * 32;
         let end = at + 32;
         let j = (b + (c + o)) % n;
         lagrange_factors::column(rows, c, j, &mut out[at..end]);
-        o += 1;
     }
 }

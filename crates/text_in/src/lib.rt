@@ -51,8 +51,7 @@ pub fn number_at(text: &[u8], at: usize, which: u8) -> Told
     ensures { result ≡ number_at text.now at which }
 {
     let mut line = number_lines::start();
-    let mut i = at;
-    while i < text.len() {
+    for i in at..text.len() {
         match feed_line(which, line, text[i]) {
             Read::More(next) => {
                 line = next;
@@ -68,7 +67,6 @@ pub fn number_at(text: &[u8], at: usize, which: u8) -> Told
                 return lost(text);
             }
         }
-        i += 1;
     }
     lost(text)
 }
@@ -78,16 +76,14 @@ fn name_at(text: &[u8], at: usize, name: &[u8]) -> Told
     ensures { result ≡ name_at text.now at name.now }
 {
     let mut i = at;
-    let mut j = 0;
-    while j < name.len() {
+    for b in name {
         if text.len() <= i {
             return lost(text);
         }
-        if text[i] != name[j] {
+        if text[i] != *b {
             return lost(text);
         }
         i += 1;
-        j += 1;
     }
     Told {
         ok: true,
@@ -112,8 +108,7 @@ fn pairs_at(text: &[u8], at: usize, count: usize) -> Told
     ensures { result ≡ pairs_at text.now at count }
 {
     let mut i = at;
-    let mut left = count;
-    while 0 < left {
+    for _ in 0..count {
         if !digit_at(text, i) {
             return lost(text);
         }
@@ -121,7 +116,6 @@ fn pairs_at(text: &[u8], at: usize, count: usize) -> Told
             return lost(text);
         }
         i += 2;
-        left -= 1;
     }
     if text.len() <= i {
         return lost(text);
@@ -164,11 +158,9 @@ pub fn fill_pairs(text: &[u8], at: usize, out: &mut [u8])
     requires { at + 2 * length out.old ≤ length text.now }
     ensures { out.new ≡ bytes_at text.now at (length out.old) }
 {
-    let mut j = 0;
-    while j < out.len() {
+    for j in 0..out.len() {
         let high = text[at + 2 * j];
         let low = text[at + 2 * j + 1];
         out[j] = 16 * nibble(high) + nibble(low);
-        j += 1;
     }
 }

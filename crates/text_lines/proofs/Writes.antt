@@ -2,12 +2,13 @@
 -- Assumes nothing.
 use mathlib.Core.Path.{◌≡◌, refl, sym, ap, ap₂, ◌∙◌}
 use mathlib.Core.List.{List, [], ◌∷◌, ◌++◌, append-nil, append_assoc}
-use Prim.Native.Nat.{ℕ, ◌+◌, ◌*◌, ◌/◌, ◌%◌, ◌≤◌, ◌<◌}
+use Prim.Native.Nat.{ℕ, ◌+◌, ◌*◌, ◌/◌, ◌%◌, ◌-◌, ◌≤◌, ◌<◌}
 use native.Mathlib.Numerals.{add-one}
 use native.Mathlib.Nat.{add-zero}
 use native.Mathlib.Omega.{arith}
-use lib.ListN.{length, take, get_or, set, length-append, take-append-drop}
-use lib.Seq.{sets-eq, take-suc, length-take-le}
+use lib.ListN.{length, take, drop, get_or, set, length-append, take-append-drop}
+use lib.Seq.{drop-drop, sets-eq, take-suc, length-take-le}
+use borrow.Rule.Slice.PartMut.{put_mid}
 use Rattle.lists.specs.Lists.{put, joined}
 use Rattle.lists.proofs.Put.{length-put, put-append}
 use Rattle.lists.proofs.Pieces.{length-joined}
@@ -51,11 +52,17 @@ module _ {l l1 a : List ℕ} {at e : ℕ} (w : Wrote l at a l1 e) where
 pub less : (a b : List ℕ) (at m : ℕ) → at + length (a ++ b) ≤ m → at + length a ≤ m
 less a b at m h = omega (arith, length-append a b)
 
--- a turn of the loop over bytes
-pub byte-turn : {l l1 : List ℕ} {at p : ℕ} (bytes : List ℕ) (t : ℕ) → t < length bytes → at + length bytes ≤ length l → Wrote l at (take t bytes) l1 p
-    → Wrote l at (take (t + 1) bytes) (set l1 p (get_or bytes t 0)) (p + 1)
-byte-turn bytes t h k w =
-    rw (add-one t, take-suc bytes t 0) (more w (get_or bytes t 0) (omega (arith, length-take-le t bytes (omega arith), length-append (take t bytes) (get_or bytes t 0 ∷ []))))
+-- a part that is written anew
+pub part : (l ys bytes : List ℕ) (at : ℕ) → ys ≡ bytes → Wrote l at bytes (put_mid at (at + length bytes - at) l ys) (at + length bytes)
+unfolding put
+part l ys bytes at e =
+    let k : at + length bytes - at ≡ length bytes = omega arith in
+    record {
+      written = ap₂ (λ (v : ℕ) (b : List ℕ). put_mid at v l b) k e
+          ∙ sym (append_assoc (take at l) bytes (drop (length bytes) (drop at l)))
+          ∙ ap (λ (r : List ℕ). (take at l ++ bytes) ++ r) (drop-drop (length bytes) at l);
+      ends = refl;
+    }
 
 pub length_pairs : (share : List ℕ) → length (joined hex_pair share) ≡ length share * 2
 length_pairs = length-joined 2 hex_pair (λ x. refl)

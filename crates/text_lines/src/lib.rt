@@ -14,7 +14,7 @@ pub fn decimal_len(x: usize) -> usize
     let mut count: usize = 1;
     let mut y = x;
     while 10 <= y {
-        y = y / 10;
+        y /= 10;
         count += 1;
     }
     count
@@ -39,13 +39,9 @@ pub fn put_bytes(bytes: &[u8], at: usize, out: &mut [u8]) -> usize
     requires { at + length bytes.now ≤ length out.old }
     ensures { Wrote out.old at bytes.now out.new result }
 {
-    let mut t: usize = 0;
-    while t < bytes.len() {
-        let p = at + t;
-        out[p] = bytes[t];
-        t += 1;
-    }
-    at + t
+    let end = at + bytes.len();
+    out[at..end].copy_from_slice(bytes);
+    end
 }
 
 // A digit of a pair: 0 to 9, then a to f.
@@ -62,12 +58,10 @@ pub fn put_pairs(share: &[u8], at: usize, out: &mut [u8]) -> usize
     ensures { Wrote out.old at (joined hex_pair share.now) out.new result }
 {
     let mut p = at;
-    let mut t: usize = 0;
-    while t < share.len() {
-        out[p] = hex_digit(share[t] / 16);
-        out[p + 1] = hex_digit(share[t] % 16);
+    for b in share {
+        out[p] = hex_digit(*b / 16);
+        out[p + 1] = hex_digit(*b % 16);
         p += 2;
-        t += 1;
     }
     p
 }
@@ -100,12 +94,10 @@ pub fn put_pairs_line(name: &[u8], bytes: &[u8], at: usize, out: &mut [u8]) -> u
 pub fn in_order(points: &[u8]) -> bool
     ensures { result ≡ in_order points.now }
 {
-    let mut i: usize = 0;
-    while i < points.len() {
-        if points[i] as usize != i {
+    for (i, point) in points.iter().enumerate() {
+        if usize::from(*point) != i {
             return false;
         }
-        i += 1;
     }
     true
 }

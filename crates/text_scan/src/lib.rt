@@ -32,29 +32,14 @@ fn note(list: &mut [usize], at: usize, v: usize)
 fn same_sizes(y: Sizes, z: Sizes) -> bool
     ensures { result ≡ like_sizes y z }
 {
-    if y.n != z.n {
-        return false;
-    }
-    if y.k != z.k {
-        return false;
-    }
-    if y.d != z.d {
-        return false;
-    }
-    y.r == z.r
+    y.n == z.n && y.k == z.k && y.d == z.d && y.r == z.r
 }
 
 // Whether a text tells these sizes, points and length.
 fn like(sizes: Sizes, points: &[u8], length: usize, z: Sizes, theirs: &[u8], told: usize) -> bool
     ensures { result ≡ alls (like_sizes sizes z ∷ same points.now theirs.now ∷ eqb length told ∷ []) }
 {
-    if !same_sizes(sizes, z) {
-        return false;
-    }
-    if !byte_tests::same_bytes(points, theirs) {
-        return false;
-    }
-    length == told
+    same_sizes(sizes, z) && byte_tests::same_bytes(points, theirs) && length == told
 }
 
 // Walks over the texts, each from behind the last.
@@ -92,7 +77,7 @@ pub fn scan_texts(
     }
     Scan {
         ok: true,
-        alike: alike,
-        count: count,
+        alike,
+        count,
     }
 }

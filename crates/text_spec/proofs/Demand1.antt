@@ -14,11 +14,10 @@ use Rattle.lists.specs.Tests.{pick, same, given, different}
 use Rattle.lists.specs.Lists.{All, Bytes, concat, over}
 use Rattle.lists.proofs.Boards.{below_all}
 use Rattle.sizes.specs.declared.Sizes.{Sizes}
-use Rattle.sizes.specs.declared.Check.{Check}
+use Rattle.std.specs.Prelude.{Ok, Err}
 use Rattle.sizes.specs.declared.Refusal.TheVariants.{Text, Mixed, Count, Repeat, Short, Disagree}
-use Rattle.sizes.specs.declared.Answer.TheVariants.{Done, Refused}
 use Rattle.sizes.specs.Sizing.{legal, α, B, stripes}
-use Rattle.sizes.specs.Refusals.{said, ◌when◌, first, board_order}
+use Rattle.sizes.specs.Refusals.{said, ◌when◌, first, board_order, Check}
 use Rattle.sizes.proofs.Legal.{legal-facts}
 use Rattle.sizes.proofs.Lines.{clear_first, refuse-first, one-or-none}
 use Rattle.sizes.proofs.Orders.{Only}
@@ -54,7 +53,7 @@ read-ends text output = record {
 
 reader-gives : (t : ShareTold) (output : List ℕ) → Writable t → length t.share ≤ length output
     → read_text_call (text_of t) output
-    ≡ record { answer = said (Done (length t.share)); sizes = t.sizes; points = t.points; node = t.node; length = t.length; output = over t.share output }
+    ≡ record { answer = said (Ok (length t.share)); sizes = t.sizes; points = t.points; node = t.node; length = t.length; output = over t.share output }
 unfolding read_text_lines read_text_call
 reader-gives t output w room =
     ap (λ (o : Option ShareTold). read_settled (first board_order (Text when not (given o) ∷ short_line output (length (told_of o).share) ∷ [])) (told_of o) output)
@@ -117,7 +116,7 @@ module _ (z : Sizes) (xs file : List ℕ) where
     all_alike i (j ∷ boards) = ((refl, refl, refl), all_alike i boards)
 
     gather-gives : (boards output : List ℕ) → Named z z.k boards → length file ≤ length output
-        → gather_call (texts_joined (map (share_of z xs file) boards)) output ≡ record { answer = said (Done (length file)); output = over file output }
+        → gather_call (texts_joined (map (share_of z xs file) boards)) output ≡ record { answer = said (Ok (length file)); output = over file output }
     unfolding shares
     gather-gives [] output h room = absurd (omega (arith, h.0, (legal-facts z ok).some_read))
     gather-gives (i ∷ boards) output h room =
@@ -177,8 +176,8 @@ module _ (t : ShareTold) (us : List ShareTold) (output : List ℕ) (w : All Writ
   called = is-file t us output w (all-like t us output w h)
 
   gather-exact : ((file : List ℕ) → length file ≡ t.length → Bytes file
-      → (gather_call (texts_joined ts) output ≡ record { answer = said (Done t.length); output = over file output }) ↔ Told file)
-      × ((gather_call (texts_joined ts) output ≡ record { answer = said (Refused Disagree); output = output })
+      → (gather_call (texts_joined ts) output ≡ record { answer = said (Ok t.length); output = over file output }) ↔ Told file)
+      × ((gather_call (texts_joined ts) output ≡ record { answer = said (Err Disagree); output = output })
       ↔ ((file : List ℕ) → length file ≡ t.length → Bytes file → Told file → ⊥))
   gather-exact =
       let e = (board.demand-1).file-exact z xs t.length (nodes_of ts) (shares_of ts) output (shares-bytes ts w) (only-file t us output w h) in (

@@ -17,11 +17,10 @@ use Rattle.lists.proofs.Alls.{append-all}
 use Rattle.lists.proofs.Boards.{all-below}
 use Rattle.lists.proofs.Tests.{alls-hold, hold-alls, every-all, all-every, not-no}
 use Rattle.sizes.specs.declared.Sizes.{Sizes}
-use Rattle.sizes.specs.declared.Check.{Check}
 use Rattle.sizes.specs.declared.Refusal.TheVariants.{Size, Area, Long, Count, Node, Repeat, Short, Disagree, Text, Mixed}
 use Rattle.sizes.specs.declared.Refusal.{Refusal}
 use Rattle.sizes.specs.Sizing.{legal, α, B, stripes}
-use Rattle.sizes.specs.Refusals.{number, Line, applies_in, ◌when◌, first, board_order}
+use Rattle.sizes.specs.Refusals.{number, Line, applies_in, ◌when◌, first, board_order, Check}
 use Rattle.sizes.proofs.Orders.{◌also◌, stands, ahead, all-at, Only, only-off, first-same}
 use Rattle.mbcr.specs.Share.{pointed, share}
 use Rattle.board_spec.specs.Calls.{BoardOutcome, settled, file_of, file_lines, file_call, count_line, repeat_line, short_line}

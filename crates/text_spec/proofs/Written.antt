@@ -12,11 +12,9 @@ use borrow.Author.Tests.{ltb-false, le-ltb, lt-ltb, leb-true, le-leb, eqb-true, 
 use Rattle.lists.specs.Lists.{over}
 use Rattle.lists.proofs.Boards.{below_all}
 use Rattle.lists.proofs.Tests.{alls-hold, not-no}
-use Rattle.sizes.specs.declared.Check.{Check}
-use Rattle.sizes.specs.declared.Check.TheVariants.{Pass, Refuse}
+use Rattle.std.specs.Prelude.{Ok, Err}
 use Rattle.sizes.specs.declared.Refusal.TheVariants.{Size, Long, Node, Area}
-use Rattle.sizes.specs.declared.Answer.TheVariants.{Done}
-use Rattle.sizes.specs.Refusals.{said, first, board_order}
+use Rattle.sizes.specs.Refusals.{said, first, board_order, Check}
 use Rattle.sizes.specs.Sizing.{α, B, stripes}
 use Rattle.sizes.proofs.Laws.{number-low}
 use Rattle.sizes.proofs.Orders.{clear-off}
@@ -31,7 +29,7 @@ module _ (t : ShareTold) where
   call output = text_call t.sizes t.points t.length t.node t.share output
 
   -- no line holds with room for the text
-  passes : Facts t → first board_order (text_lines t.sizes t.points t.length t.node t.share (text_of t)) ≡ Pass
+  passes : Facts t → first board_order (text_lines t.sizes t.points t.length t.node t.share (text_of t)) ≡ Ok tt
   unfolding text_lines
   passes f =
       rw (
@@ -47,7 +45,7 @@ module _ (t : ShareTold) where
   unfolding text_call
   there h = ap (λ (c : Check). (settled c (text_of t) (text_of t)).answer.refusal) (passes (facts-of t h))
 
-  passed : (output : List ℕ) → first board_order (text_lines t.sizes t.points t.length t.node t.share output) ≡ Pass → Facts t
+  passed : (output : List ℕ) → first board_order (text_lines t.sizes t.points t.length t.node t.share output) ≡ Ok tt → Facts t
   unfolding text_lines
   passed output p =
       let off = clear-off (text_lines t.sizes t.points t.length t.node t.share output) board_order p in
@@ -66,20 +64,20 @@ module _ (t : ShareTold) where
     where
       by : (c : Check) → first board_order (text_lines t.sizes t.points t.length t.node t.share output) ≡ c
           → (settled c (text_of t) output).answer.refusal ≡ 0 → writable t ≡ true
-      by (Refuse x) p q = absurd (omega (arith, number-low x, q))
-      by Pass p q = of-facts t (passed output p)
+      by (Err x) p q = absurd (omega (arith, number-low x, q))
+      by (Ok tt) p q = of-facts t (passed output p)
 
   pub can_write : (writable t ≡ true) ↔ ((output : List ℕ) × ((call output).answer.refusal ≡ 0))
   can_write = (λ h. (text_of t, there h), λ h. back h.0 h.1)
 
-  pub writes-text : (output : List ℕ) → (call output).answer.refusal ≡ 0 → call output ≡ record { answer = said (Done (length (text_of t))); output = over (text_of t) output }
+  pub writes-text : (output : List ℕ) → (call output).answer.refusal ≡ 0 → call output ≡ record { answer = said (Ok (length (text_of t))); output = over (text_of t) output }
   unfolding text_call
   writes-text output e = by (first board_order (text_lines t.sizes t.points t.length t.node t.share output)) e
     where
       by : (c : Check) → (settled c (text_of t) output).answer.refusal ≡ 0
-          → settled c (text_of t) output ≡ record { answer = said (Done (length (text_of t))); output = over (text_of t) output }
-      by (Refuse x) q = absurd (omega (arith, number-low x, q))
-      by Pass q = refl
+          → settled c (text_of t) output ≡ record { answer = said (Ok (length (text_of t))); output = over (text_of t) output }
+      by (Err x) q = absurd (omega (arith, number-low x, q))
+      by (Ok tt) q = refl
 
 pub text-laws : ReadLaws
 text-laws = record {

@@ -1,16 +1,13 @@
 -- Request A.1: the text reader and the gathering, each a total function of its arguments to its answer and to every byte that it was lent.
 -- Assumes nothing.
-use Rattle.std.specs.Prelude.{Bool, not, List, [], ◌∷◌, map, ℕ, leb, eqb, length, replicate}
+use Rattle.std.specs.Prelude.{Bool, not, List, [], ◌∷◌, map, ℕ, leb, eqb, length, replicate, Ok, Err}
 use Rattle.std.proofs.Math.Option.{Option, some, none}
 use Rattle.lists.specs.Tests.{alls, every, same, given}
 use Rattle.lists.specs.Lists.{concat, over}
 use Rattle.sizes.specs.declared.Sizes.{Sizes}
 use Rattle.sizes.specs.declared.Refusal.TheVariants.{Text, Mixed, Disagree}
-use Rattle.sizes.specs.declared.Check.{Check}
-use Rattle.sizes.specs.declared.Check.TheVariants.{Pass, Refuse}
-use Rattle.sizes.specs.declared.Answer.TheVariants.{Done, Refused}
 use Rattle.sizes.specs.Sizing.{max_boards}
-use Rattle.sizes.specs.Refusals.{Said, said, Line, ◌when◌, first, board_order}
+use Rattle.sizes.specs.Refusals.{Said, said, Line, ◌when◌, first, board_order, Check}
 use Rattle.mbcr.specs.Read.{read_file}
 use Rattle.board_spec.specs.Calls.{BoardOutcome, settled, file_of, count_line, repeat_line, short_line}
 use Rattle.text_spec.specs.Texts.{ShareTold, read_text, texts_of}
@@ -40,8 +37,8 @@ giving answer t output = record { answer = answer; sizes = t.sizes; points = t.p
 
 -- a refusal gives its number, nothing told, and the output as it came
 abbrev pub read_settled : Check → ShareTold → List ℕ → ReadOutcome
-read_settled (Refuse x) t output = giving (said (Refused x)) blank output
-read_settled Pass t output = giving (said (Done (length t.share))) t (over t.share output)
+read_settled (Err x) t output = giving (said (Err x)) blank output
+read_settled (Ok tt) t output = giving (said (Ok (length t.share))) t (over t.share output)
 
 -- "12 TEXT for any other text, before all else"
 unfoldable pub read_text_lines : List ℕ → List ℕ → List Line

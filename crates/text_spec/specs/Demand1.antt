@@ -2,14 +2,13 @@
 -- changes no byte of the output. And what they give: the reader what was written; the gathering the file of the shares, just where there is one.
 -- proofs/Demand1.antt has `demand-1 : TextCalls`.
 -- Assumes nothing.
-use Rattle.std.specs.Prelude.{◌≡◌, true, false, ◌↔◌, ◌⊎◌, List, [], ◌∷◌, map, ℕ, ◌*◌, ◌≤◌, ◌<◌, length, replicate}
+use Rattle.std.specs.Prelude.{◌≡◌, true, false, ◌↔◌, ◌⊎◌, List, [], ◌∷◌, map, ℕ, ◌*◌, ◌≤◌, ◌<◌, length, replicate, Ok, Err}
 use Rattle.std.proofs.Math.Option.{none}
 use Rattle.lists.specs.Tests.{different}
 use Rattle.lists.specs.Lists.{All, Bytes, concat, over}
 use Rattle.sizes.specs.declared.Sizes.{Sizes}
 use Rattle.sizes.specs.declared.Refusal.{Refusal}
 use Rattle.sizes.specs.declared.Refusal.TheVariants.{Text, Mixed, Count, Repeat, Short, Disagree}
-use Rattle.sizes.specs.declared.Answer.TheVariants.{Done, Refused}
 use Rattle.sizes.specs.Sizing.{max_stripes, legal, B}
 use Rattle.sizes.specs.Refusals.{said, Line, applies_in, board_order}
 use Rattle.sizes.specs.Laws.{First}
@@ -29,7 +28,7 @@ pub record ReadEnds (lines : List Line) (output : List ℕ) (t : ShareTold) (o :
   pub one : ((x : Refusal) × First board_order lines x) ⊎ All (λ x. applies_in lines x ≡ false) board_order
   -- "The first that applies is given", nothing is told but zeros, and the output is as it came
   pub refuses : (x : Refusal) → First board_order lines x → o ≡ record {
-    answer = said (Refused x);
+    answer = said (Err x);
     sizes = record { n = 0; k = 0; d = 0; r = 0 };
     points = replicate 32 0;
     node = 0;
@@ -38,7 +37,7 @@ pub record ReadEnds (lines : List Line) (output : List ℕ) (t : ShareTold) (o :
   }
   -- else sizes, points, board and length are told, the share's bytes are written and their number answered, and output beyond them stays
   pub works : All (λ x. applies_in lines x ≡ false) board_order
-      → (o ≡ record { answer = said (Done (length t.share)); sizes = t.sizes; points = t.points; node = t.node; length = t.length; output = over t.share output })
+      → (o ≡ record { answer = said (Ok (length t.share)); sizes = t.sizes; points = t.points; node = t.node; length = t.length; output = over t.share output })
       × (length t.share ≤ length output)
 
 -- the text is that of no writable share
@@ -91,19 +90,19 @@ pub record TextCalls : Type 0 where
   -- a text that was written tells what it was written of
   pub reader-gives : (t : ShareTold) (output : List ℕ) → Writable t → length t.share ≤ length output
       → read_text_call (text_of t) output
-      ≡ record { answer = said (Done (length t.share)); sizes = t.sizes; points = t.points; node = t.node; length = t.length; output = over t.share output }
+      ≡ record { answer = said (Ok (length t.share)); sizes = t.sizes; points = t.points; node = t.node; length = t.length; output = over t.share output }
   -- texts that do not differ are gathered as "a file from k shares" is made of what they tell
   pub gather-is-file : (t : ShareTold) (ts : List ShareTold) (output : List ℕ) → All Writable (t ∷ ts) → All (Like t) ts
       → gather_call (texts_joined (t ∷ ts)) output ≡ file_call t.sizes t.points t.length (nodes_of (t ∷ ts)) (shares_of (t ∷ ts)) output
   -- the texts of k boards' shares of a file, in any order, give the file and its length
   pub gather-gives : (z : Sizes) (xs file boards output : List ℕ) → legal z ≡ true → pointed z xs ≡ true → Bytes file → length file ≤ max_stripes * B z
       → Named z z.k boards → length file ≤ length output
-      → gather_call (texts_joined (map (share_of z xs file) boards)) output ≡ record { answer = said (Done (length file)); output = over file output }
+      → gather_call (texts_joined (map (share_of z xs file) boards)) output ≡ record { answer = said (Ok (length file)); output = over file output }
   -- where no line but DISAGREE holds, it gives f exactly when f has the length told and the shares told, and DISAGREE exactly when there is no such file
   pub gather-exact : (t : ShareTold) (ts : List ShareTold) (output : List ℕ) → All Writable (t ∷ ts)
       → All (λ x. (x ≡ Disagree) ⊎ (applies_in (gather_lines (texts_joined (t ∷ ts)) output) x ≡ false)) board_order
       → ((file : List ℕ) → length file ≡ t.length → Bytes file
-      → (gather_call (texts_joined (t ∷ ts)) output ≡ record { answer = said (Done t.length); output = over file output })
+      → (gather_call (texts_joined (t ∷ ts)) output ≡ record { answer = said (Ok t.length); output = over file output })
       ↔ All (λ u. u.share ≡ share t.sizes t.points file u.node) (t ∷ ts))
-      × ((gather_call (texts_joined (t ∷ ts)) output ≡ record { answer = said (Refused Disagree); output = output })
+      × ((gather_call (texts_joined (t ∷ ts)) output ≡ record { answer = said (Err Disagree); output = output })
       ↔ ((file : List ℕ) → length file ≡ t.length → Bytes file → All (λ u. u.share ≡ share t.sizes t.points file u.node) (t ∷ ts) → ⊥))

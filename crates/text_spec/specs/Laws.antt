@@ -1,10 +1,9 @@
 -- What holds of share texts: reading undoes writing and writing undoes reading, so that a share has one text; one after another they are read apart.
 -- proofs/Written.antt has `text-laws : ReadLaws`.
 -- Assumes nothing.
-use Rattle.std.specs.Prelude.{◌≡◌, true, ◌↔◌, List, [], ◌∷◌, ◌++◌, ℕ, length}
+use Rattle.std.specs.Prelude.{◌≡◌, true, ◌↔◌, List, [], ◌∷◌, ◌++◌, ℕ, length, Ok}
 use Rattle.std.proofs.Math.Option.{some}
 use Rattle.lists.specs.Lists.{All, Bytes, over}
-use Rattle.sizes.specs.declared.Answer.TheVariants.{Done}
 use Rattle.sizes.specs.Refusals.{said}
 use Rattle.board_spec.specs.Calls.{text_call}
 use Rattle.text_spec.specs.Texts.{ShareTold, text_of, texts_joined, writable, Found, text_at, read_text, texts_of}
@@ -18,7 +17,7 @@ pub record ReadLaws : Type 0 where
   pub can_write : (t : ShareTold) → (writable t ≡ true) ↔ ((output : List ℕ) × ((text_call t.sizes t.points t.length t.node t.share output).answer.refusal ≡ 0))
   -- and where it is not refused it writes that text
   pub writes-text : (t : ShareTold) (output : List ℕ) → (text_call t.sizes t.points t.length t.node t.share output).answer.refusal ≡ 0
-      → text_call t.sizes t.points t.length t.node t.share output ≡ record { answer = said (Done (length (text_of t))); output = over (text_of t) output }
+      → text_call t.sizes t.points t.length t.node t.share output ≡ record { answer = said (Ok (length (text_of t))); output = over (text_of t) output }
   -- a text at the beginning, whatever is behind it
   pub writes_reads : (t : ShareTold) → Writable t → (behind : List ℕ) → text_at (text_of t ++ behind) ≡ some (record { told = t; behind = behind })
   pub reads-writes : (text : List ℕ) (f : Found) → text_at text ≡ some f → (text ≡ text_of f.told ++ f.behind) × Writable f.told

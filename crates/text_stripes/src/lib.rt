@@ -17,14 +17,11 @@ fn stripe_bytes(text: &[u8], places: &[usize], from: usize, share: usize, out: &
     requires { Spelled text.now places.now from share × (length out.old ≡ length places.now * share) }
     ensures { out.new ≡ spelled text.now places.now from share }
 {
-    let k = places.len();
-    let mut t: usize = 0;
-    while t < k {
+    for t in 0..places.len() {
         let at = t * share;
         let end = at + share;
         let place = places[t] + from;
         text_in::fill_pairs(text, place, &mut out[at..end]);
-        t += 1;
     }
 }
 

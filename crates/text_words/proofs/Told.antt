@@ -10,20 +10,19 @@ use lib.ListN.{length, set, take, drop, drop_of_length-le}
 use lib.Seq.{sets-eq, take_all}
 use borrow.Author.Tests.{ne_eqb}
 use Rattle.lists.specs.Tests.{pick}
-use Rattle.sizes.specs.declared.Answer.{Answer}
-use Rattle.sizes.specs.declared.Answer.TheVariants.{Done, Refused}
+use Rattle.std.specs.Prelude.{Ok, Err}
 use Rattle.sizes.specs.declared.Refusal.{Refusal}
-use Rattle.sizes.specs.Refusals.{number, said}
+use Rattle.sizes.specs.Refusals.{number, said, Answer}
 use Rattle.sizes.proofs.Laws.{number-low}
 
 -- one list where the answer is no refusal, and else the other
 abbrev picked : Answer → List ℕ → List ℕ → List ℕ
 picked a x y = pick (eqb (said a).refusal 0) x y
 
-pub done-picks : (a : Answer) (v : ℕ) (x y : List ℕ) → a ≡ Done v → x ≡ picked a x y
+pub done-picks : (a : Answer) (v : ℕ) (x y : List ℕ) → a ≡ Ok v → x ≡ picked a x y
 done-picks a v x y e = sym (ap (λ (b : Answer). picked b x y) e)
 
-pub refused-picks : (a : Answer) (r : Refusal) (x y : List ℕ) → a ≡ Refused r → y ≡ picked a x y
+pub refused-picks : (a : Answer) (r : Refusal) (x y : List ℕ) → a ≡ Err r → y ≡ picked a x y
 refused-picks a r x y e =
     sym (ap (λ (b : Answer). picked b x y) e ∙ ap (λ (t : Bool). pick t x y) (ne_eqb (number r) 0 (λ q. omega (arith, number-low r, q))))
 

@@ -9,7 +9,6 @@ ghost use Rattle.answer_word.specs.Answers.{word_of};
 ghost use Rattle.text_words.specs.Words.{head_of};
 
 use board_read_text::TextRead;
-use sizes::Answer;
 
 // Puts what the text told where the reader answered no refusal, and gives the word of its answer.
 pub fn tell(read: TextRead, head: &mut [u64], points: &mut [u8]) -> u64
@@ -18,7 +17,7 @@ pub fn tell(read: TextRead, head: &mut [u64], points: &mut [u8]) -> u64
 {
     let answer = read.answer;
     let word = answer_word::word_of(answer);
-    if let Answer::Done(_) = answer {
+    if let Ok(_) = answer {
         let xs = read.points;
         let row = row_sums::row_at(&xs, 0);
         row_sums::put_row(row, points);

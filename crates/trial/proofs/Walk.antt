@@ -3,6 +3,7 @@
 use mathlib.Core.Path.{◌≡◌, refl, sym, ap, ap₂, ◌∙◌}
 use mathlib.Core.Bool.{Bool, true}
 use mathlib.Core.Option.{Option, some, none}
+use Rattle.std.specs.Prelude as rust
 use mathlib.Core.List.{List, [], ◌++◌, append-nil, append_assoc}
 use Prim.Native.Nat.{ℕ, suc, ◌+◌, ◌*◌, ◌-◌, ◌≤◌, ◌<◌}
 use native.Mathlib.Omega.{arith}
@@ -22,8 +23,6 @@ use Rattle.beside_spec.proofs.Beside.{set-up-both}
 use Rattle.trial_spec.specs.Trial.{Load, new_store, taken, loaded, drawn, left, trial_over, trial_of, trial_text}
 use Rattle.trial_spec.proofs.Laws.{trial-laws}
 use Rattle.trial_input.specs.declared.Load as load
-use Rattle.trial_input.specs.declared.Loaded.{Loaded}
-use Rattle.trial_input.specs.declared.Loaded.TheVariants.{Taken, Refused}
 use Rattle.trial_input.specs.Steps.{load_in, loaded_in}
 use Rattle.trial_calls.proofs.Made.{take-zeros}
 use Rattle.trial_turn.specs.Turn.{outcome_of, line_after}
@@ -113,10 +112,10 @@ text_of l kept p m ek ep em h =
 
 -- ---- by what is loaded
 
-pub loaded-load : (input : List ℕ) (o : Loaded) (l : load.Load) → loaded_in o ≡ loaded input → o ≡ Taken l → loaded input ≡ some (load_in l)
+pub loaded-load : (input : List ℕ) (o : rust.Option load.Load) (l : load.Load) → loaded_in o ≡ loaded input → o ≡ rust.Some l → loaded input ≡ some (load_in l)
 loaded-load input o l e q = sym e ∙ ap loaded_in q
 
-pub loaded-none : (input : List ℕ) (o : Loaded) → loaded_in o ≡ loaded input → o ≡ Refused → loaded input ≡ none
+pub loaded-none : (input : List ℕ) (o : rust.Option load.Load) → loaded_in o ≡ loaded input → o ≡ rust.None → loaded input ≡ none
 loaded-none input o e q = sym e ∙ ap loaded_in q
 
 pub load-taken : (input : List ℕ) (l : Load) → loaded input ≡ some l → taken l ≡ true

@@ -14,7 +14,7 @@ ghost use Rattle.trial.specs.Printing.{Printing};
 
 use record::Running;
 use store::Store;
-use trial_input::{Load, Loaded};
+use trial_input::Load;
 
 // How many bytes the lines have that were to be written, how many calls were not made, and whether every line was written: else a call may be left.
 #[derive(Clone, Copy)]
@@ -114,10 +114,9 @@ fn refuse() -> Printed
 fn run(input: &[u8]) -> Printed
     ensures { Printing (trial_text input.now) result }
 {
-    let loaded = trial_input::read_load(input);
-    match loaded {
-        Loaded::Taken(load) => print(load),
-        Loaded::Refused => refuse(),
+    match trial_input::read_load(input) {
+        Some(load) => print(load),
+        None => refuse(),
     }
 }
 

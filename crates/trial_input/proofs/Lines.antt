@@ -4,6 +4,8 @@ use mathlib.Core.Path.{◌≡◌, refl, sym, ap, fun_ext, ◌∙◌}
 use mathlib.Core.Bool.{Bool, true, false}
 use mathlib.Core.Logic.{⊎_elim}
 use mathlib.Core.Option.{Option, none}
+use Rattle.std.specs.Prelude as rust
+use Rattle.std.specs.Prelude.{option_and_then}
 use mathlib.Core.List.{List, [], ◌∷◌}
 use Prim.Native.Nat.{ℕ, ◌<◌}
 use native.Mathlib.Omega.{arith}
@@ -12,12 +14,14 @@ use Rattle.lists.specs.Tests.{pick}
 use Rattle.number_lines.specs.Lines.{line}
 use Rattle.number_lines.specs.Steps.{capped}
 use Rattle.number_lines.proofs.Capped.{capped-like, capped-low}
-use Rattle.text_in.specs.declared.Told.{Told}
 use Rattle.line_places.specs.Steps.{most, line_at}
-use Rattle.line_places.proofs.Places.{line-by, next-line}
+use Rattle.line_places.proofs.Places.{line-by}
 use Rattle.trial_spec.specs.Trial.{Load, eight_lines, taken, loaded}
 use Rattle.trial_limits.specs.Steps.{numbers_in}
-use Rattle.trial_input.specs.Steps.{numbers_at}
+use Rattle.trial_input.specs.declared.Line.{Line}
+use Rattle.trial_input.specs.declared.Four.{Four}
+use Rattle.trial_input.specs.declared.Eight.{Eight}
+use Rattle.trial_input.specs.Steps.{line_of, with_r, from_d, from_k, from_n, with_calls, from_length, from_seed, from_C, from_sizes, numbers_at}
 use Rattle.trial_limits.proofs.SetUp.{Small, small, ends, ends-refused}
 
 -- ---- numbers that are held
@@ -130,38 +134,44 @@ behind2 n k input = line none d= input (λ d rest. behind3 n k (held d) rest)
 behind1 : ℕ → List ℕ → Option Load
 behind1 n input = line none k= input (λ k rest. behind2 n (held k) rest)
 
+-- what is done with what was told, where it was
+abbrev pub through : {A : Type 0} → rust.Option A → (A → Option Load) → Option Load
+through rust.None f = none
+through (rust.Some a) f = f a
+
 module _ (text : List ℕ) where
-  abbrev n_at : Told
-  n_at = line_at text 0 n=
+  abbrev pub fin : Eight → Option Load
+  fin e = ends (numbers_in e.numbers) (drop e.next text)
 
-  abbrev k_at : Told
-  k_at = line_at text n_at.next k=
+  -- a line, by what is done with it and with what is behind it, where nothing is done else
+  level : {X : Type 0} (T : rust.Option X → Option Load) (F : Line → rust.Option X) (at : ℕ) (name : List ℕ) (K : ℕ → List ℕ → Option Load)
+      → none ≡ T rust.None → ((l : Line) → K l.value (drop l.next text) ≡ T (F l))
+      → line none name (drop at text) (λ v rest. K (held v) rest) ≡ T (option_and_then F (line_of text at name))
+  level T F at name K e f = line-by text at name K ∙ by (line_at text at name).ok
+    where
+      by : (b : Bool) → let t = line_at text at name in
+          pick b (K t.value (drop t.next text)) none ≡ T (option_and_then F (pick b (rust.Some (record { value = t.value; next = t.next })) rust.None))
+      by true = f (record { value = (line_at text at name).value; next = (line_at text at name).next })
+      by false = e
 
-  abbrev d_at : Told
-  d_at = line_at text k_at.next d=
+  -- from the numbers on
+  abbrev last : rust.Option Eight → Option Load
+  last o = through o fin
 
-  abbrev r_at : Told
-  r_at = line_at text d_at.next r=
+  abbrev middle : rust.Option Four → Option Load
+  middle o = last (option_and_then (from_sizes text) o)
 
-  abbrev CAt : Told
-  CAt = line_at text r_at.next C=
-
-  abbrev seed_at : Told
-  seed_at = line_at text CAt.next seed=
-
-  abbrev length_at : Told
-  length_at = line_at text seed_at.next length=
-
-  pub loaded-by : let e = numbers_at text in loaded text ≡ pick e.ok (ends (numbers_in e.numbers) (drop e.next text)) none
+  pub loaded-by : loaded text ≡ through (numbers_at text) fin
   unfolding loaded behind1 behind2 behind3 behind4 behind5 behind6 behind7
   loaded-by =
       ap (λ (P : Load → List ℕ → Option Load). eight_lines none text P) (sym (fun_ext (λ l. fun_ext (λ rest. held_same l rest))))
-      ∙ line-by text 0 n= behind1
-      ∙ next-line text 0 n= k= (behind2 n_at.value)
-      ∙ next-line text n_at.next k= d= (behind3 n_at.value k_at.value)
-      ∙ next-line text k_at.next d= r= (behind4 n_at.value k_at.value d_at.value)
-      ∙ next-line text d_at.next r= C= (behind5 n_at.value k_at.value d_at.value r_at.value)
-      ∙ next-line text r_at.next C= seed= (behind6 n_at.value k_at.value d_at.value r_at.value CAt.value)
-      ∙ next-line text CAt.next seed= length= (behind7 n_at.value k_at.value d_at.value r_at.value CAt.value seed_at.value)
-      ∙ next-line text seed_at.next length= calls=
-      (λ calls rest. ends (load n_at.value k_at.value d_at.value r_at.value CAt.value seed_at.value length_at.value calls) rest)
+      ∙ level middle (from_n text) 0 n= behind1 refl (λ n.
+      level middle (from_k text n) n.next k= (behind2 n.value) refl (λ k.
+      level middle (from_d text n k) k.next d= (behind3 n.value k.value) refl (λ d.
+      level middle (with_r text n k d) d.next r= (behind4 n.value k.value d.value) refl (λ r.
+      let four : Four = record { sizes = record { n = n.value; k = k.value; d = d.value; r = r.value }; next = r.next } in
+      level last (from_C text four) r.next C= (behind5 n.value k.value d.value r.value) refl (λ C.
+      level last (from_seed text four C) C.next seed= (behind6 n.value k.value d.value r.value C.value) refl (λ seed.
+      level last (from_length text four C seed) seed.next length= (behind7 n.value k.value d.value r.value C.value seed.value) refl (λ L.
+      level last (with_calls text four C seed L) L.next calls= (λ calls rest. ends (load n.value k.value d.value r.value C.value seed.value L.value calls) rest) refl
+      (λ calls. refl))))))))

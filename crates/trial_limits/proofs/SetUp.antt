@@ -12,12 +12,11 @@ use borrow.Author.Tests.{eqb-true, eq-eqb, ne_eqb, le-leb}
 use Rattle.lists.specs.Tests.{pick, alls}
 use Rattle.lists.proofs.Tests.{is_false, not-no, alls-hold}
 use Rattle.sizes.specs.declared.Sizes.{Sizes}
-use Rattle.sizes.specs.declared.Check.{Check}
-use Rattle.sizes.specs.declared.Check.TheVariants.{Pass, Refuse}
+use Rattle.std.specs.Prelude.{Ok, Err}
 use Rattle.sizes.specs.declared.Refusal.{Refusal}
 use Rattle.sizes.specs.declared.Refusal.TheVariants.{Size}
 use Rattle.sizes.specs.Sizing.{α}
-use Rattle.sizes.specs.Refusals.{first, store_order}
+use Rattle.sizes.specs.Refusals.{first, store_order, Check}
 use Rattle.sizes.proofs.Legal.{legal-facts}
 use Rattle.sizes.proofs.Orders.{◌also◌, clear-off, off-pass}
 use Rattle.mbcr.specs.Share.{standard}
@@ -41,23 +40,23 @@ module _ (z : Sizes) (C : ℕ) where
   abbrev pub set_up_check : Check
   set_up_check = first store_order (record_line new ∷ [])
 
-  pub passed-sound : set_up_check ≡ Pass → Sound new
+  pub passed-sound : set_up_check ≡ Ok tt → Sound new
   passed-sound e = sound-facts new (not-no _ (clear-off (record_line new ∷ []) store_order e Size refl))
 
-  sound-passed : sound new ≡ true → set_up_check ≡ Pass
+  sound-passed : sound new ≡ true → set_up_check ≡ Ok tt
   sound-passed e = off-pass (record_line new ∷ []) store_order (ap not e also tt)
 
   abbrev tests : List Bool
   tests = eqb (set_up_call new z (standard z) C).answer.refusal 0 ∷ leb (area_len new) 32768 ∷ []
 
-  pub refused_none : (x : Refusal) → set_up_check ≡ Refuse x → set_up z C ≡ false
+  pub refused_none : (x : Refusal) → set_up_check ≡ Err x → set_up z C ≡ false
   refused_none x e =
       is_false (set_up z C) (λ h.
       let s = sound-passed (set-up-sound new z (standard z) C (eqb-true _ 0 (alls-hold tests h).0)) in
       let q : ◌≡◌ {A = ℕ} 0 1 = cc in
       omega arith)
 
-  pub passed-area : set_up_check ≡ Pass → leb (z.n * (C * α z)) 32768 ≡ set_up z C
+  pub passed-area : set_up_check ≡ Ok tt → leb (z.n * (C * α z)) 32768 ≡ set_up z C
   passed-area e =
       let s = passed-sound e in
       let q = eq-eqb _ 0 (set-up-taken new z (standard z) C s.is-legal s.is-pointed s.cap-low s.cap-high) in

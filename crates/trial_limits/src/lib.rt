@@ -8,7 +8,7 @@ ghost use Rattle.store_lines.specs.Steps.{Bounded};
 ghost use Rattle.trial_spec.specs.Trial.{taken};
 ghost use Rattle.trial_limits.specs.Steps.{numbers_in, set_up};
 
-use sizes::{Check, Sizes};
+use sizes::Sizes;
 
 // The numbers of the eight lines; one above 4,294,967,295 is held as one more than that.
 #[derive(Clone, Copy)]
@@ -33,10 +33,8 @@ fn set_up(sizes: Sizes, capacity: usize) -> bool
     ensures { result ≡ set_up sizes capacity }
 {
     let points = board_lines::standard_points(sizes);
-    if let Check::Refuse(_) = check_set_up_lose::check_set_up(sizes, points, capacity) {
-        return false;
-    }
-    area_len(sizes, capacity) <= 32768
+    check_set_up_lose::check_set_up(sizes, points, capacity).is_ok()
+        && area_len(sizes, capacity) <= 32768
 }
 
 // Whether these numbers are taken.

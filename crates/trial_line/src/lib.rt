@@ -8,25 +8,25 @@ ghost use Rattle.board_spec.specs.Text.{decimal};
 ghost use Rattle.text_lines.specs.Steps.{Wrote};
 ghost use Rattle.trial_line.specs.Line.{opening, moved_end, line_of};
 
-use sizes::Answer;
+use sizes::Refusal;
 
 // The refusal's number, or 0.
-fn refusal(answer: Answer) -> u8
+fn refusal(answer: Result<usize, Refusal>) -> u8
     ensures { result ≡ (said answer).refusal }
 {
     match answer {
-        Answer::Done(_) => 0,
-        Answer::Refused(x) => x.number(),
+        Ok(_) => 0,
+        Err(x) => x.number(),
     }
 }
 
 // The number reported, or 0.
-fn reported(answer: Answer) -> usize
+fn reported(answer: Result<usize, Refusal>) -> usize
     ensures { result ≡ (said answer).reported }
 {
     match answer {
-        Answer::Done(v) => v,
-        Answer::Refused(_) => 0,
+        Ok(v) => v,
+        Err(_) => 0,
     }
 }
 
@@ -55,7 +55,7 @@ fn put_moved(moved: usize, at: usize, line: &mut [u8]) -> usize
 }
 
 // The line of a call of this kind with this answer, to the beginning of a slice. Answers how many bytes it has.
-pub fn put_call(op: u8, answer: Answer, line: &mut [u8]) -> usize
+pub fn put_call(op: u8, answer: Result<usize, Refusal>, line: &mut [u8]) -> usize
     requires { length line.old ≡ 48 }
     ensures { Wrote line.old 0 (line_of op (said answer)) line.new result }
 {

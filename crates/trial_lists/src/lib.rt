@@ -11,10 +11,8 @@ pub fn count_on(n: usize, first: usize, out: &mut [usize])
     requires { (1 ≤ n) × (first ≤ 64) × (length out.old ≤ 32) }
     ensures { out.new ≡ counted n first (length out.old) }
 {
-    let mut i: usize = 0;
-    while i < out.len() {
+    for i in 0..out.len() {
         out[i] = (first + i) % n;
-        i += 1;
     }
 }
 
@@ -23,11 +21,9 @@ pub fn repeat_on(n: usize, first: usize, d: usize, r: usize, out: &mut [usize])
     requires { (1 ≤ n) × (first ≤ 64) × (d ≤ 32) × (r ≤ 32) × (length out.old ≡ r * d) }
     ensures { out.new ≡ join r (λ _. counted n first d) }
 {
-    let mut t: usize = 0;
-    while t < r {
+    for t in 0..r {
         let a = t * d;
         let e = a + d;
         count_on(n, first, &mut out[a..e]);
-        t += 1;
     }
 }

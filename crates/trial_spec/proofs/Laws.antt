@@ -13,10 +13,8 @@ use Rattle.lists.specs.Tests.{pick, alls, among, given}
 use Rattle.lists.specs.Lists.{All, join, over}
 use Rattle.lists.proofs.Tests.{true-false, alls-hold, hold-alls}
 use Rattle.sizes.specs.declared.Sizes.{Sizes}
-use Rattle.sizes.specs.declared.Check.{Check}
-use Rattle.sizes.specs.declared.Check.TheVariants.{Pass, Refuse}
-use Rattle.sizes.specs.declared.Answer.TheVariants.{Done, Refused}
-use Rattle.sizes.specs.Refusals.{Said, said, Line, first, store_order}
+use Rattle.std.specs.Prelude.{Ok, Err}
+use Rattle.sizes.specs.Refusals.{Said, said, Line, first, store_order, Check}
 use Rattle.mbcr.specs.Share.{standard}
 use Rattle.board_spec.specs.Calls.{file_of}
 use Rattle.printer.specs.Printer.{refused_line}
@@ -46,8 +44,8 @@ unfolding set_up_call
 any-record old new p z xs c = (alone-laws.set-up-alone old p z xs c).answer-is ∙ by (first store_order (record_line (new_record z xs c) ∷ []))
   where
     by : (k : Check) → (settle k (refused old [] []) (accepted 0 (new_record z xs c) [] [])).answer ≡ (settle k (refused new [] []) (accepted 0 (new_record z xs c) [] [])).answer
-    by Pass = refl
-    by (Refuse x) = refl
+    by (Ok tt) = refl
+    by (Err x) = refl
 
 -- ---- what is taken
 
@@ -217,19 +215,19 @@ length-zeros (suc m) = ap suc (length-zeros m)
 -- what the ledger answers to a read, and the book after it, by its lines
 abbrev entered : Book → List ℕ → List ℕ → List Line → Entry
 entered b boards output lines =
-    settle (first store_order lines) (λ x. replied (said (Refused x)) output b) (replied (said (Done 0)) (over (file_of b.file) output) b)
+    settle (first store_order lines) (λ x. replied (said (Err x)) output b) (replied (said (Ok 0)) (over (file_of b.file) output) b)
 
 same_answer : (b : Book) (boards out other : List ℕ) (lines : List Line)
     → ((entered b boards out lines).reply.answer ≡ (entered b boards other lines).reply.answer) × ((entered b boards out lines).book ≡ (entered b boards other lines).book)
 same_answer b boards out other lines = by (first store_order lines)
   where
     by : (c : Check) →
-        ((settle c (λ x. replied (said (Refused x)) out b) (replied (said (Done 0)) (over (file_of b.file) out) b)).reply.answer
-        ≡ (settle c (λ x. replied (said (Refused x)) other b) (replied (said (Done 0)) (over (file_of b.file) other) b)).reply.answer)
-        × ((settle c (λ x. replied (said (Refused x)) out b) (replied (said (Done 0)) (over (file_of b.file) out) b)).book
-        ≡ (settle c (λ x. replied (said (Refused x)) other b) (replied (said (Done 0)) (over (file_of b.file) other) b)).book)
-    by Pass = (refl, refl)
-    by (Refuse x) = (refl, refl)
+        ((settle c (λ x. replied (said (Err x)) out b) (replied (said (Ok 0)) (over (file_of b.file) out) b)).reply.answer
+        ≡ (settle c (λ x. replied (said (Err x)) other b) (replied (said (Ok 0)) (over (file_of b.file) other) b)).reply.answer)
+        × ((settle c (λ x. replied (said (Err x)) out b) (replied (said (Ok 0)) (over (file_of b.file) out) b)).book
+        ≡ (settle c (λ x. replied (said (Err x)) other b) (replied (said (Ok 0)) (over (file_of b.file) other) b)).book)
+    by (Ok tt) = (refl, refl)
+    by (Err x) = (refl, refl)
 
 clear_lines : (b : Book) (boards output : List ℕ) → book_lines b (read boards output) ≡ book_lines b (cleared (read boards output))
 unfolding book_lines

@@ -25,11 +25,9 @@ pub fn fill_marks(word: u64, marks: &mut [bool])
     ensures { marks.new ≡ bits (length marks.old) word }
 {
     let mut rest = word;
-    let mut i: usize = 0;
-    while i < marks.len() {
-        marks[i] = rest % 2 == 1;
-        rest = rest / 2;
-        i += 1;
+    for mark in marks.iter_mut() {
+        *mark = rest % 2 == 1;
+        rest /= 2;
     }
 }
 

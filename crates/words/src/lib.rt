@@ -19,10 +19,8 @@ fn marks_word(marks: &[bool]) -> u64
     ensures { result ≡ from_bits marks.now }
 {
     let mut word: u64 = 0;
-    let mut i = marks.len();
-    while 0 < i {
-        i -= 1;
-        word = word * 2;
+    for i in (0..marks.len()).rev() {
+        word *= 2;
         if marks[i] {
             word += 1;
         }
@@ -91,8 +89,5 @@ pub fn put_kept(kept: Kept, words: &mut [u64])
 pub fn are_records(words: &[u64], beside: &[u64]) -> bool
     ensures { result ≡ alls (is_record words.now ∷ is_repair beside.now ∷ []) }
 {
-    if !word_parts::is_record(words) {
-        return false;
-    }
-    repair_parts::is_repair(beside)
+    word_parts::is_record(words) && repair_parts::is_repair(beside)
 }

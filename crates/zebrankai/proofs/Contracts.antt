@@ -10,7 +10,7 @@ use lib.ListN.{length}
 use contract.Lifetimes.{Lfts}
 use denote.Triple.Clauses.{AtExit}
 use borrow.Fn.Kinds.{Dens, ended_of}
-use Rattle.sizes.specs.declared.Answer.TheVariants.{Done}
+use Rattle.std.specs.Prelude.{Ok}
 use Rattle.sizes.specs.Refusals.{said}
 use Rattle.board_spec.specs.Calls.{BoardOutcome, share_call, file_call, helper_call, exchange_call, finished_call, text_call}
 use Rattle.beside_spec.specs.Acting.{write, lose, repair, read, careful, edit, move, start, step}
@@ -217,7 +217,7 @@ gather-gives κs a w e = (tt, λ h. h)
 
 pub prefix-gives : (κs : Lfts 1) (a : Dens κs prefix-kinds.ps) (w : ℕ) (e : AtExit (ended_of 1 prefix-kinds.ps prefix-kinds.r) κs)
     → prefix-reads.Asked κs a
-    × (prefix-reads.Learnt κs a w e → w ≡ word_of (said (Done (longest a.0.now))))
+    × (prefix-reads.Learnt κs a w e → w ≡ word_of (said (Ok (longest a.0.now))))
 prefix-gives κs a w e = (tt, λ h. h)
 
 -- ---- the trial file: the state after it, and all bytes of the output

@@ -10,9 +10,8 @@
 
 #![tactic(auto)]
 
-ghost use Rattle.std.specs.Prelude.{◌≡◌, List, [], ℕ, length};
+ghost use Rattle.std.specs.Prelude.{◌≡◌, List, [], ℕ, length, Ok};
 ghost use Rattle.generator.specs.Generator.{after, emitted};
-ghost use Rattle.sizes.specs.declared.Answer.TheVariants.{Done};
 ghost use Rattle.sizes.specs.Refusals.{said};
 ghost use Rattle.board_spec.specs.Calls.{share_call, file_call, helper_call, exchange_call, finished_call, text_call};
 ghost use Rattle.text_spec.specs.Calls.{gather_call};
@@ -165,7 +164,7 @@ pub extern "C" fn zbk_gather(text: &[u8], out: &mut [u8]) -> u64
 // How many bytes of a text also begin some text that zbk_share_text writes, at their most. Reports that number, and refuses nothing.
 #[unsafe(no_mangle)]
 pub extern "C" fn zbk_text_prefix(text: &[u8]) -> u64
-    ensures { result ≡ word_of (said (Done (longest text.now))) }
+    ensures { result ≡ word_of (said (Ok (longest text.now))) }
 {
     archive_texts::text_prefix(text)
 }

@@ -3,8 +3,7 @@
 use mathlib.Core.Path.{ap}
 use native.Mathlib.Omega.{arith}
 use borrow.Author.Rules.{rules}
-use Rattle.sizes.specs.declared.Answer.{Answer}
-use Rattle.sizes.specs.Refusals.{said}
+use Rattle.sizes.specs.Refusals.{said, Answer}
 use Rattle.answer_word.specs.Answers.{word_of}
 use Rattle.answer_word.proofs.word_of.Statement.{statement}
 use Rattle.answer_word.proofs.word_of.Tie as tie
@@ -14,9 +13,9 @@ word_of_spec =
     tie.close
     (tie.spec
     (λ c. search rules)
-    (λ c. let e = ap (λ (a : Answer). (said a).reported) c.in-Done.is in omega (arith, c.requires, e))
+    (λ c. let e = ap (λ (a : Answer). (said a).reported) c.in-Ok.is in omega (arith, c.requires, e))
     (λ c. search rules)
     (λ c κs. search rules)
     (λ c. search rules)
-    (λ c. let e = ap (λ (a : Answer). word_of (said a)) c.in-Done.is in omega (arith, e))
-    (λ c. let e = ap (λ (a : Answer). word_of (said a)) c.in-Refused.is in omega (arith, e, c.number.ensures)))
+    (λ c. let e = ap (λ (a : Answer). word_of (said a)) c.in-Ok.is in omega (arith, e))
+    (λ c. let e = ap (λ (a : Answer). word_of (said a)) c.in-Err.is in omega (arith, e, c.number.ensures)))

@@ -3,7 +3,7 @@
 use mathlib.Core.Path.{sym, ap, subst, ◌∙◌}
 use Prim.Native.Nat.{ℕ}
 use borrow.Author.Rules.{rules}
-use Rattle.sizes.specs.declared.Answer.TheVariants.{Done}
+use Rattle.std.specs.Prelude.{Ok}
 use Rattle.sizes.specs.Refusals.{said}
 use Rattle.answer_word.specs.Answers.{word_of}
 use Rattle.archive_spec.proofs.Bounds.{Fits, prefix-fits}
@@ -16,4 +16,4 @@ text_prefix_spec =
     (tie.spec
     (λ c κs. search rules)
     (λ c κs. subst Fits (sym c.prefix.ensures) (prefix-fits _))
-    (λ c. c.word_of.ensures ∙ ap (λ (v : ℕ). word_of (said (Done v))) c.before.prefix.ensures))
+    (λ c. c.word_of.ensures ∙ ap (λ (v : ℕ). word_of (said (Ok v))) c.before.prefix.ensures))

@@ -7,7 +7,7 @@ use mathlib.Core.List.{List, [], ◌∷◌, ◌++◌}
 use borrow.Author.Rules.{rules}
 use Rattle.lists.specs.Tests.{different}
 use Rattle.sizes.specs.declared.Refusal.TheVariants.{Repeat}
-use Rattle.sizes.specs.declared.Check.TheVariants.{Refuse}
+use Rattle.std.specs.Prelude.{Err}
 use Rattle.board_spec.specs.Calls.{repeat_line}
 use Rattle.line_checks.specs.Steps.{asked}
 use Rattle.line_checks.proofs.Answers.{passes, refuses}
@@ -37,7 +37,7 @@ st-apart c = st (at-boards (at_others c))
 abbrev named : tie.Start → List ℕ
 named g = g.args.boards.now ++ g.args.others.now ++ (g.args.last ∷ [])
 
-twice : (g : tie.Start) → different (named g) ≡ false → Refuse Repeat ≡ asked (repeat_line (named g))
+twice : (g : tie.Start) → different (named g) ≡ false → Err Repeat ≡ asked (repeat_line (named g))
 twice g e = refuses (repeat_line (named g)) (ap not e)
 
 returns : tie.Need-returns-then-among_from

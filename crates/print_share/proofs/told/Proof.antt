@@ -5,8 +5,8 @@ use mathlib.Core.List.{List}
 use Prim.Native.Nat.{ℕ, ◌≤◌}
 use lib.ListN.{length, take}
 use lib.Seq.{length-take-le}
-use Rattle.sizes.specs.declared.Answer.{Answer}
-use Rattle.sizes.specs.declared.Answer.TheVariants.{Done, Refused}
+use Rattle.sizes.specs.Refusals.{Answer}
+use Rattle.std.specs.Prelude.{Ok, Err}
 use Rattle.board_spec.specs.Calls.{BoardOutcome, share_call, text_call}
 use Rattle.board_lines.specs.Outcomes.{outcome}
 use Rattle.printer.specs.Printer.{refused_line, told}
@@ -17,21 +17,21 @@ use Rattle.print_share.proofs.told.Statement.{statement}
 use Rattle.print_share.proofs.told.Tie as tie
 
 -- places in the code
-abbrev in-refused-of-slice_known-in-refused-1 : tie.After-slice_known-in-Refused-1 → tie.In-Refused
+abbrev in-refused-of-slice_known-in-refused-1 : tie.After-slice_known-in-Err-1 → tie.In-Err
 in-refused-of-slice_known-in-refused-1 c = c.before.before.before.before.before
 
 -- what the call said
-said-done : (c : tie.In-Done) → let a = c.args in
-    outcome (Done c.in-Done.count) c.share-answer.new.out ≡ share_call a.z a.points a.node a.file.now a.share.now
-said-done c = let s = c.share-answer in ap (λ (x : Answer). outcome x s.new.out) (sym c.in-Done.is) ∙ s.ensures
+said-done : (c : tie.In-Ok) → let a = c.args in
+    outcome (Ok c.in-Ok.count) c.share-answer.new.out ≡ share_call a.z a.points a.node a.file.now a.share.now
+said-done c = let s = c.share-answer in ap (λ (x : Answer). outcome x s.new.out) (sym c.in-Ok.is) ∙ s.ensures
 
-said-refused : (c : tie.In-Refused) → let a = c.args in
-    outcome (Refused c.in-Refused.x) c.share-answer.new.out ≡ share_call a.z a.points a.node a.file.now a.share.now
-said-refused c = let s = c.share-answer in ap (λ (x : Answer). outcome x s.new.out) (sym c.in-Refused.is) ∙ s.ensures
+said-refused : (c : tie.In-Err) → let a = c.args in
+    outcome (Err c.in-Err.x) c.share-answer.new.out ≡ share_call a.z a.points a.node a.file.now a.share.now
+said-refused c = let s = c.share-answer in ap (λ (x : Answer). outcome x s.new.out) (sym c.in-Err.is) ∙ s.ensures
 
 -- the share's bytes are there, and what is written of their text
-done : (c : tie.In-Done) → let a = c.args in
-    let v = c.in-Done.count in
+done : (c : tie.In-Ok) → let a = c.args in
+    let v = c.in-Ok.count in
     let after = c.share-answer.new.out in
     (v ≤ length after)
     × ((l : List ℕ) → wrote_in (text_call a.z a.points (length a.file.now) a.node (take v after) l)
@@ -41,19 +41,19 @@ done c = let a = c.args in share-done a.z a.points a.node a.file.now a.share.now
 slice-reshare-prefix-text : tie.Need-slice_bounds-text-end
 slice-reshare-prefix-text c = (done c).0
 
-slice-aggregate-text : tie.Need-slice_bounds-text-end-in-Done
+slice-aggregate-text : tie.Need-slice_bounds-text-end-in-Ok
 slice-aggregate-text c = sym (length-take-le _ _ (done c).0)
 
-returns : tie.Need-returns-in-Done
+returns : tie.Need-returns-in-Ok
 returns c =
     (ap (λ (o : BoardOutcome). o.output) c.share-answer.ensures, c.text.ensures ∙ (done c.before.before.before.before).1 c.args.out.now)
 
-returns-2 : tie.Need-returns-in-Refused
+returns-2 : tie.Need-returns-in-Err
 returns-2 c =
     let a = c.args in (
       ap (λ (o : BoardOutcome). o.output) c.share-answer.ensures,
       c.refused.ensures ∙ ap (λ (x : ℕ). placed (refused_line x) a.out.now) c.number.ensures
-          ∙ ap (λ (l : List ℕ). placed l a.out.now) (share-refused a.z a.points a.node a.file.now a.share.now c.in-Refused.x _ (said-refused (in-refused-of-slice_known-in-refused-1 c))),
+          ∙ ap (λ (l : List ℕ). placed l a.out.now) (share-refused a.z a.points a.node a.file.now a.share.now c.in-Err.x _ (said-refused (in-refused-of-slice_known-in-refused-1 c))),
     )
 
 pub told_spec : {M : Type 1} → statement M

@@ -9,17 +9,17 @@ use Rattle.text_words.proofs.tell.Statement.{statement}
 use Rattle.text_words.proofs.tell.Tie as tie
 
 -- places in the code
-abbrev xs-in-done-1-of-slice_known-in-done-1 : tie.After-slice_known-in-Done-1 → tie.After-xs-in-Done-1
+abbrev xs-in-done-1-of-slice_known-in-done-1 : tie.After-slice_known-in-Ok-1 → tie.After-xs-in-Ok-1
 xs-in-done-1-of-slice_known-in-done-1 c = c.before.before.before.before.before
 
 -- the points are 32
 all_are : tie.Need-slice_bounds-row_at-end
 all_are c = search rules
 
-done : tie.Need-returns-in-Done
+done : tie.Need-returns-in-Ok
 done c =
     let a = c.args in
-    let e = c.in-Done.is in (
+    let e = c.in-Ok.is in (
       c.word_of-word.ensures,
       six-set a.head.now _ _ _ _ _ _ c.requires.0 ∙ done-picks a.read.answer _ _ a.head.now e,
       c.put_row.ensures ∙ all-points a.read.points _ (sym (all_are (xs-in-done-1-of-slice_known-in-done-1 c))) c.row_at-row.ensures

@@ -4,7 +4,7 @@ use mathlib.Core.Path.{◌≡◌, sym, ◌∙◌}
 use mathlib.Core.List.{[]}
 use lib.ListN.{length}
 use borrow.Author.Rules.{rules}
-use Rattle.sizes.specs.declared.Check.TheVariants.{Pass}
+use Rattle.std.specs.Prelude.{Ok}
 use Rattle.sizes.specs.Refusals.{first, store_order}
 use Rattle.store_spec.specs.Record.{Record}
 use Rattle.store_spec.specs.Edit.{edit_lines}
@@ -26,7 +26,7 @@ in-default-check_agrees-of-slice_known-2-1 c = c.before.before.before.before.bef
 abbrev check_edit-of-in-default-check_agrees : tie.In_default-check_agrees → tie.After-check_edit
 check_edit-of-in-default-check_agrees c = c.before.before.before.before.before.before.before
 
-abbrev check_edit-of-in-refuse-check_agrees : tie.In-Refuse-check_agrees → tie.After-check_edit
+abbrev check_edit-of-in-refuse-check_agrees : tie.In-Err-check_agrees → tie.After-check_edit
 check_edit-of-in-refuse-check_agrees c = c.before.before.before.before.before.before.before
 
 abbrev check_edit-of-slice_known-2-1 : tie.After-slice_known-2-1 → tie.After-check_edit
@@ -39,7 +39,7 @@ abbrev P : tie.After-check_edit → Running
 P c = running_in c.args.running
 
 -- what the first check told
-begun : (c : tie.In_default) → let a = c.args in begins (R c.before) (P c.before) a.area.now a.offset a.bytes.now a.boards.now ≡ Pass
+begun : (c : tie.In_default) → let a = c.args in begins (R c.before) (P c.before) a.area.now a.offset a.bytes.now a.boards.now ≡ Ok tt
 begun c = sym c.check_edit.ensures ∙ c.in_default.is
 
 asks : (c : tie.In_default) → let a = c.args in Readable (R c.before) (length a.area.now) a.boards.now
@@ -47,7 +47,7 @@ asks c = let a = c.args in edit-asks (R c.before) (P c.before) a.area.now a.offs
 
 -- and both
 passed : (c : tie.In_default-check_agrees)
-    → let a = c.args in checked (R (check_edit-of-in-default-check_agrees c)) (P (check_edit-of-in-default-check_agrees c)) a.area.now a.offset a.bytes.now a.boards.now ≡ Pass
+    → let a = c.args in checked (R (check_edit-of-in-default-check_agrees c)) (P (check_edit-of-in-default-check_agrees c)) a.area.now a.offset a.bytes.now a.boards.now ≡ Ok tt
 passed c =
     let a = c.args in
     edit-passes (R (check_edit-of-in-default-check_agrees c)) (P (check_edit-of-in-default-check_agrees c)) a.area.now a.offset a.bytes.now a.boards.now c.check_edit.ensures c.in_default.is c.check_agrees.ensures c.in_default-check_agrees.is
@@ -60,24 +60,24 @@ edit-done c =
 -- the call alone passes too
 alone : (c : tie.In_default-check_agrees)
     → let a = c.args in
-    first store_order (edit_lines (R (check_edit-of-in-default-check_agrees c)) a.area.now a.offset a.bytes.now a.boards.now) ≡ Pass
+    first store_order (edit_lines (R (check_edit-of-in-default-check_agrees c)) a.area.now a.offset a.bytes.now a.boards.now) ≡ Ok tt
 alone c =
     let a = c.args in
     edit-alone (R (check_edit-of-in-default-check_agrees c)) (P (check_edit-of-in-default-check_agrees c)) a.area.now a.offset a.bytes.now a.boards.now (passed c)
 
-edit-refused : (c : tie.In-Refuse)
+edit-refused : (c : tie.In-Err)
     → let a = c.args in
-    turned_down (R c.before) (P c.before) a.area.now [] [] c.in-Refuse.x ≡ edit_both (R c.before) (P c.before) a.area.now a.offset a.bytes.now a.boards.now
+    turned_down (R c.before) (P c.before) a.area.now [] [] c.in-Err.x ≡ edit_both (R c.before) (P c.before) a.area.now a.offset a.bytes.now a.boards.now
 edit-refused c =
     let a = c.args in
-    edit-refuses (R c.before) (P c.before) a.area.now a.offset a.bytes.now a.boards.now c.check_edit.ensures c.in-Refuse.is
+    edit-refuses (R c.before) (P c.before) a.area.now a.offset a.bytes.now a.boards.now c.check_edit.ensures c.in-Err.is
 
-edit-disagreed : (c : tie.In-Refuse-check_agrees)
+edit-disagreed : (c : tie.In-Err-check_agrees)
     → let a = c.args in
-    turned_down (R (check_edit-of-in-refuse-check_agrees c)) (P (check_edit-of-in-refuse-check_agrees c)) a.area.now [] [] c.in-Refuse-check_agrees.disagree ≡ edit_both (R (check_edit-of-in-refuse-check_agrees c)) (P (check_edit-of-in-refuse-check_agrees c)) a.area.now a.offset a.bytes.now a.boards.now
+    turned_down (R (check_edit-of-in-refuse-check_agrees c)) (P (check_edit-of-in-refuse-check_agrees c)) a.area.now [] [] c.in-Err-check_agrees.disagree ≡ edit_both (R (check_edit-of-in-refuse-check_agrees c)) (P (check_edit-of-in-refuse-check_agrees c)) a.area.now a.offset a.bytes.now a.boards.now
 edit-disagreed c =
     let a = c.args in
-    edit-disagrees (R (check_edit-of-in-refuse-check_agrees c)) (P (check_edit-of-in-refuse-check_agrees c)) a.area.now a.offset a.bytes.now a.boards.now c.check_edit.ensures c.in_default.is c.check_agrees.ensures c.in-Refuse-check_agrees.is
+    edit-disagrees (R (check_edit-of-in-refuse-check_agrees c)) (P (check_edit-of-in-refuse-check_agrees c)) a.area.now a.offset a.bytes.now a.boards.now c.check_edit.ensures c.in_default.is c.check_agrees.ensures c.in-Err-check_agrees.is
 
 pub edit_spec : {M : Type 1} → statement M
 edit_spec =
@@ -95,7 +95,7 @@ edit_spec =
     (λ c. search rules)
     (λ c κs. search rules)
     (λ c. search rules)
-    (λ c. c.refuse-in-Refuse-check_agrees.ensures _ [] [] ∙ edit-disagreed c.before)
+    (λ c. c.refuse-in-Err-check_agrees.ensures _ [] [] ∙ edit-disagreed c.before)
     (λ c. search rules)
     (λ c. search rules)
     (λ c κs. (alone c.before.before, c.fill_tables.ensures))

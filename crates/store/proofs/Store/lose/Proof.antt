@@ -4,7 +4,7 @@ use mathlib.Core.Path.{◌≡◌, sym, ◌∙◌}
 use mathlib.Core.List.{List, []}
 use Prim.Native.Nat.{ℕ}
 use borrow.Author.Rules.{rules}
-use Rattle.sizes.specs.declared.Check.TheVariants.{Pass}
+use Rattle.std.specs.Prelude.{Ok}
 use Rattle.store_spec.specs.Record.{Record}
 use Rattle.beside_spec.specs.Running.{Running}
 use Rattle.beside_spec.specs.Both.{lose_both}
@@ -22,12 +22,12 @@ abbrev P : tie.After-check_lose → Running
 P c = running_in c.args.running
 
 -- what the check told
-passed : (c : tie.In_default) → lost (R c.before) (P c.before) c.args.board ≡ Pass
+passed : (c : tie.In_default) → lost (R c.before) (P c.before) c.args.board ≡ Ok tt
 passed c = sym c.check_lose.ensures ∙ c.in_default.is
 
-lose-refused : (c : tie.In-Refuse) (area : List ℕ)
-    → turned_down (R c.before) (P c.before) area [] [] c.in-Refuse.x ≡ lose_both (R c.before) (P c.before) area c.args.board
-lose-refused c area = lose-refuses (R c.before) (P c.before) c.args.board c.check_lose.ensures c.in-Refuse.is area
+lose-refused : (c : tie.In-Err) (area : List ℕ)
+    → turned_down (R c.before) (P c.before) area [] [] c.in-Err.x ≡ lose_both (R c.before) (P c.before) area c.args.board
+lose-refused c area = lose-refuses (R c.before) (P c.before) c.args.board c.check_lose.ensures c.in-Err.is area
 
 pub lose_spec : {M : Type 1} → statement M
 lose_spec =

@@ -5,7 +5,7 @@ use mathlib.Core.List.{[]}
 use Prim.Native.Nat.{◌<◌}
 use lib.ListN.{length}
 use borrow.Author.Rules.{rules}
-use Rattle.sizes.specs.declared.Check.TheVariants.{Pass}
+use Rattle.std.specs.Prelude.{Ok}
 use Rattle.sizes.specs.Refusals.{first, store_order}
 use Rattle.store_spec.specs.Record.{Record}
 use Rattle.beside_spec.specs.Running.{Running}
@@ -30,23 +30,23 @@ P c = running_in c.args.running
 
 -- what the check told
 passed : (c : tie.In_default)
-    → let a = c.args in checked (R c.before) (P c.before) a.area.now a.board a.point a.helpers.now a.partners.now ≡ Pass
+    → let a = c.args in checked (R c.before) (P c.before) a.area.now a.board a.point a.helpers.now a.partners.now ≡ Ok tt
 passed c = sym c.check_move.ensures ∙ c.in_default.is
 
 alone : (c : tie.In_default)
     → let a = c.args in
-    first store_order (move_lines (R c.before) (length a.area.now) a.board a.point a.helpers.now a.partners.now) ≡ Pass
+    first store_order (move_lines (R c.before) (length a.area.now) a.board a.point a.helpers.now a.partners.now) ≡ Ok tt
 alone c = let a = c.args in move-alone (R c.before) (P c.before) a.area.now a.board a.point a.helpers.now a.partners.now (passed c)
 
 known : (c : tie.In_default) → c.args.board < 32
 known c = let a = c.args in move-known (R c.before) a.area.now a.board a.point a.helpers.now a.partners.now (alone c)
 
-move-refused : (c : tie.In-Refuse)
+move-refused : (c : tie.In-Err)
     → let a = c.args in
-    turned_down (R c.before) (P c.before) a.area.now [] [] c.in-Refuse.x ≡ move_both (R c.before) (P c.before) a.area.now a.board a.point a.helpers.now a.partners.now
+    turned_down (R c.before) (P c.before) a.area.now [] [] c.in-Err.x ≡ move_both (R c.before) (P c.before) a.area.now a.board a.point a.helpers.now a.partners.now
 move-refused c =
     let a = c.args in
-    move-refuses (R c.before) (P c.before) a.area.now a.board a.point a.helpers.now a.partners.now c.check_move.ensures c.in-Refuse.is
+    move-refuses (R c.before) (P c.before) a.area.now a.board a.point a.helpers.now a.partners.now c.check_move.ensures c.in-Err.is
 
 move-done : tie.Need-returns
 move-done c =

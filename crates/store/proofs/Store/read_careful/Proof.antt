@@ -42,12 +42,12 @@ room c =
     let a = c.args in
     careful-room (R c.before) (P c.before) a.area.now a.boards.now a.out.now _ c.check_careful.ensures c.in_default.is
 
-refused : (c : tie.In-Refuse)
+refused : (c : tie.In-Err)
     → let a = c.args in
-    turned_down (R c.before) (P c.before) a.area.now a.out.now [] c.in-Refuse.x ≡ careful_both (R c.before) (P c.before) a.area.now a.boards.now a.out.now
+    turned_down (R c.before) (P c.before) a.area.now a.out.now [] c.in-Err.x ≡ careful_both (R c.before) (P c.before) a.area.now a.boards.now a.out.now
 refused c =
     let a = c.args in
-    careful-refuses (R c.before) (P c.before) a.area.now a.boards.now a.out.now c.check_careful.ensures c.in-Refuse.is
+    careful-refuses (R c.before) (P c.before) a.area.now a.boards.now a.out.now c.check_careful.ensures c.in-Err.is
 
 -- no file qualifies
 disagrees : (c : tie.Then-not-tried)

@@ -5,7 +5,7 @@ use mathlib.Core.List.{[]}
 use native.Mathlib.Omega.{arith}
 use lib.ListN.{length}
 use borrow.Author.Rules.{rules}
-use Rattle.sizes.specs.declared.Check.TheVariants.{Pass}
+use Rattle.std.specs.Prelude.{Ok}
 use Rattle.sizes.proofs.Legal.{legal-facts}
 use Rattle.lagrange_factors.proofs.Values.{below_more}
 use Rattle.store_spec.specs.Record.{Record}
@@ -43,7 +43,7 @@ P c = running_in c.args.running
 
 -- what the check told
 passed : (c : tie.In_default)
-    → let a = c.args in checked (R c.before) (P c.before) a.area.now a.fresh.now a.helpers.now a.standins.now ≡ Pass
+    → let a = c.args in checked (R c.before) (P c.before) a.area.now a.fresh.now a.helpers.now a.standins.now ≡ Ok tt
 passed c = sym c.check_repair.ensures ∙ c.in_default.is
 
 asks : (c : tie.In_default) → let a = c.args in Repairable (R c.before) (length a.area.now) a.fresh.now a.helpers.now a.standins.now
@@ -66,12 +66,12 @@ repair-done c =
     repair-works (R (check_repair-of-marks-3-1 c)) (P (check_repair-of-marks-3-1 c)) a.area.now a.fresh.now a.helpers.now a.standins.now _ _ _ (passed (in-default-of-marks-3-1 c))
     c.rebuild-moved.ensures.0 c.marks_on.ensures c.rebuild-moved.ensures.1
 
-repair-refused : (c : tie.In-Refuse)
+repair-refused : (c : tie.In-Err)
     → let a = c.args in
-    turned_down (R c.before) (P c.before) a.area.now [] [] c.in-Refuse.x ≡ repair_both (R c.before) (P c.before) a.area.now a.fresh.now a.helpers.now a.standins.now
+    turned_down (R c.before) (P c.before) a.area.now [] [] c.in-Err.x ≡ repair_both (R c.before) (P c.before) a.area.now a.fresh.now a.helpers.now a.standins.now
 repair-refused c =
     let a = c.args in
-    repair-refuses (R c.before) (P c.before) a.area.now a.fresh.now a.helpers.now a.standins.now c.check_repair.ensures c.in-Refuse.is
+    repair-refuses (R c.before) (P c.before) a.area.now a.fresh.now a.helpers.now a.standins.now c.check_repair.ensures c.in-Err.is
 
 pub repair_spec : {M : Type 1} → statement M
 repair_spec =

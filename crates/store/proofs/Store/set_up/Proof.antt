@@ -11,12 +11,12 @@ use Rattle.store_work.proofs.Settled.{new, set-up-refuses, set-up-works}
 use Rattle.store.proofs.Store.set_up.Statement.{statement}
 use Rattle.store.proofs.Store.set_up.Tie as tie
 
-set-up-refused : (c : tie.In-Refuse)
+set-up-refused : (c : tie.In-Err)
     → let a = c.args in
-    turned_down (record_in a.self) (running_in a.running) [] [] [] c.in-Refuse.x ≡ set_up_both (record_in a.self) (running_in a.running) a.sizes a.points a.capacity
+    turned_down (record_in a.self) (running_in a.running) [] [] [] c.in-Err.x ≡ set_up_both (record_in a.self) (running_in a.running) a.sizes a.points a.capacity
 set-up-refused c =
     let a = c.args in
-    set-up-refuses (record_in a.self) (running_in a.running) a.sizes a.points a.capacity c.check_set_up.ensures c.in-Refuse.is
+    set-up-refuses (record_in a.self) (running_in a.running) a.sizes a.points a.capacity c.check_set_up.ensures c.in-Err.is
 
 set-up-done : tie.Need-returns
 set-up-done c =

@@ -6,7 +6,7 @@ use Prim.Native.Nat.{◌≤◌}
 use native.Mathlib.Omega.{arith}
 use lib.ListN.{length}
 use borrow.Author.Rules.{rules}
-use Rattle.sizes.specs.declared.Check.TheVariants.{Pass}
+use Rattle.std.specs.Prelude.{Ok}
 use Rattle.sizes.proofs.Legal.{legal-facts}
 use Rattle.lagrange_factors.proofs.Values.{below_more}
 use Rattle.store_spec.specs.Record.{Record}
@@ -28,7 +28,7 @@ P c = running_in c.args.running
 
 -- what the check told
 passed : (c : tie.In_default)
-    → let a = c.args in checked (R c.before) (P c.before) a.area.now a.fresh.now a.helpers.now a.standins.now ≡ Pass
+    → let a = c.args in checked (R c.before) (P c.before) a.area.now a.fresh.now a.helpers.now a.standins.now ≡ Ok tt
 passed c = sym c.check_repair.ensures ∙ c.in_default.is
 
 asks : (c : tie.In_default) → let a = c.args in Repairable (R c.before) (length a.area.now) a.fresh.now a.helpers.now a.standins.now
@@ -48,12 +48,12 @@ bytes-ask c κs =
       below_more n 256 a.standins.now few f.stand-ins-known,
     )
 
-start-refused : (c : tie.In-Refuse)
+start-refused : (c : tie.In-Err)
     → let a = c.args in
-    turned_down (R c.before) (P c.before) a.area.now [] [] c.in-Refuse.x ≡ start_call (R c.before) (P c.before) a.area.now a.fresh.now a.helpers.now a.standins.now
+    turned_down (R c.before) (P c.before) a.area.now [] [] c.in-Err.x ≡ start_call (R c.before) (P c.before) a.area.now a.fresh.now a.helpers.now a.standins.now
 start-refused c =
     let a = c.args in
-    start-refuses (R c.before) (P c.before) a.area.now a.fresh.now a.helpers.now a.standins.now c.check_repair.ensures c.in-Refuse.is
+    start-refuses (R c.before) (P c.before) a.area.now a.fresh.now a.helpers.now a.standins.now c.check_repair.ensures c.in-Err.is
 
 start-done : tie.Need-returns
 start-done c =

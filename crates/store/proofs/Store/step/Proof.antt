@@ -3,7 +3,7 @@
 use mathlib.Core.Path.{◌≡◌, sym, ◌∙◌}
 use mathlib.Core.List.{[]}
 use borrow.Author.Rules.{rules}
-use Rattle.sizes.specs.declared.Check.TheVariants.{Pass}
+use Rattle.std.specs.Prelude.{Ok}
 use Rattle.store_spec.specs.Record.{Record}
 use Rattle.beside_spec.specs.Running.{Running}
 use Rattle.beside_spec.specs.Both.{step_call}
@@ -28,15 +28,15 @@ abbrev P : tie.After-check_step → Running
 P c = running_in c.args.running
 
 -- what the check told
-passed : (c : tie.In_default) → checked (R c.before) (P c.before) c.args.area.now c.args.packets.now ≡ Pass
+passed : (c : tie.In_default) → checked (R c.before) (P c.before) c.args.area.now c.args.packets.now ≡ Ok tt
 passed c = sym c.check_step.ensures ∙ c.in_default.is
 
-step-refused : (c : tie.In-Refuse)
+step-refused : (c : tie.In-Err)
     → let a = c.args in
-    turned_down (R c.before) (P c.before) a.area.now [] a.packets.now c.in-Refuse.x ≡ step_call (R c.before) (P c.before) a.area.now a.packets.now a.allowance
+    turned_down (R c.before) (P c.before) a.area.now [] a.packets.now c.in-Err.x ≡ step_call (R c.before) (P c.before) a.area.now a.packets.now a.allowance
 step-refused c =
     let a = c.args in
-    step-refuses (R c.before) (P c.before) a.area.now a.packets.now a.allowance c.check_step.ensures c.in-Refuse.is
+    step-refuses (R c.before) (P c.before) a.area.now a.packets.now a.allowance c.check_step.ensures c.in-Err.is
 
 -- the work left both records and both areas as the call hands them on
 step-done : tie.Need-returns

@@ -7,7 +7,7 @@ use native.Mathlib.Omega.{arith}
 use mathlib.Core.List.{[]}
 use lib.ListN.{length}
 use borrow.Author.Rules.{rules}
-use Rattle.sizes.specs.declared.Check.TheVariants.{Pass}
+use Rattle.std.specs.Prelude.{Ok}
 use Rattle.sizes.specs.Sizing.{B}
 use Rattle.sizes.proofs.Legal.{legal-facts, stripes-least}
 use Rattle.store_spec.specs.Record.{Record}
@@ -47,7 +47,7 @@ abbrev P : tie.After-check_write → Running
 P c = running_in c.args.running
 
 -- what the check told
-passed : (c : tie.In_default) → checked (R c.before) (P c.before) c.args.area.now c.args.file.now ≡ Pass
+passed : (c : tie.In_default) → checked (R c.before) (P c.before) c.args.area.now c.args.file.now ≡ Ok tt
 passed c = sym c.check_write.ensures ∙ c.in_default.is
 
 facts : (c : tie.In_default) → Writes (R c.before) (length c.args.area.now) c.args.file.now
@@ -82,10 +82,10 @@ write-done : tie.Need-returns
 write-done c =
     write-works (R (check_write-of-first_on-marks c)) (P (check_write-of-first_on-marks c)) c.args.area.now c.args.file.now _ _ (passed (in-default-of-first_on-marks c)) c.first_on-marks.ensures c.write_shares.ensures
 
-write-refused : (c : tie.In-Refuse)
-    → let a = c.args in turned_down (R c.before) (P c.before) a.area.now [] [] c.in-Refuse.x ≡ write_both (R c.before) (P c.before) a.area.now a.file.now
+write-refused : (c : tie.In-Err)
+    → let a = c.args in turned_down (R c.before) (P c.before) a.area.now [] [] c.in-Err.x ≡ write_both (R c.before) (P c.before) a.area.now a.file.now
 write-refused c =
-    write-refuses (R c.before) (P c.before) c.args.area.now c.args.file.now c.check_write.ensures c.in-Refuse.is
+    write-refuses (R c.before) (P c.before) c.args.area.now c.args.file.now c.check_write.ensures c.in-Err.is
 
 pub write_spec : {M : Type 1} → statement M
 write_spec =

@@ -1,0 +1,8 @@
+-- `check_lists::all_out` meets its contract. The loop's invariant: the test of what is left is the test of the whole.
+-- Assumes nothing.
+use Rattle.std.proofs.Common.{◌≡◌, false, not, get_or, drop}
+use Rattle.lists.specs.Tests.{every}
+use Rattle.check_lists.proofs.all_out.Given as goal
+
+abbrev pub invariant-loop-board : goal.invariant-loop-board
+invariant-loop-board l = every (λ i. not (get_or l.marks i false)) (drop l.board-index l.boards) ≡ every (λ i. not (get_or l.marks i false)) l.boards

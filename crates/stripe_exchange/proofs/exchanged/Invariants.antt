@@ -1,0 +1,8 @@
+-- `stripe_exchange::exchanged` meets its contract: what is filled in, before what was there.
+-- Assumes nothing.
+use Rattle.std.proofs.Common.{◌≡◌, ◌+◌, ◌*◌, ◌++◌, drop, get_or}
+use Rattle.lists.specs.Lists.{tabulate}
+use Rattle.stripe_exchange.proofs.exchanged.Given as goal
+
+abbrev pub invariant-loop-t : goal.invariant-loop-t
+invariant-loop-t l = l.out ≡ tabulate l.t (λ t. get_or l.exchanges (t * l.stripes + l.s) 0) ++ drop l.t l.initial.out
