@@ -1,6 +1,7 @@
 -- `repair_finish::all_g` meets its contract: the rows of the fresh boards so far, before what was there.
+-- A turn's number is below the fresh boards' as some board is fresh: so a loop that ends early is refused where it ends.
 -- Assumes nothing.
-use Rattle.std.proofs.Common.{◌≡◌, sym, ap, ◌∙◌, ◌+◌, ◌*◌, ◌-◌, length, take, drop, ℕ, arith}
+use Rattle.std.proofs.Common.{◌≡◌, sym, ap, ◌∙◌, ◌+◌, ◌*◌, ◌-◌, ◌<◌, length, take, drop, ℕ, arith}
 use native.Mathlib.Nat.{zero-mul}
 use lib.ListN.{length-take, length-drop}
 use Rattle.lists.proofs.Put.{part_end}
@@ -27,7 +28,7 @@ row_sums-requires c =
     let z = a.sizes in
     let f = legal-facts _ p.0 in
     let l = c.loop-a in
-    let h = c.loop-a-test.true in
+    let h : l.a < a.t = omega (arith, c.loop-a-test.true, p.5.some) in
     let q = p.5.helps in
     let from : ℕ = l.a * a.c in
     let lf : length (take (from + z.d - from) (drop from a.firsts.now)) ≡ z.d = simp (length-take, length-drop) (omega (arith, part_end l.a a.c a.t h, q, p.3)) in
@@ -42,7 +43,7 @@ loop-a-preserved c =
     let p = c.requires in
     let l = c.loop-a in
     let z = a.sizes in
-    let lg = cut-long a.lanes l.a a.t l.gs c.loop-a-test.true (l.auto.gs ∙ p.4) in
+    let lg = cut-long a.lanes l.a a.t l.gs (omega (arith, c.loop-a-test.true, p.5.some)) (l.auto.gs ∙ p.4) in
     join-loop (g_row z.d (one z) a.c a.lanes a.rows.now a.firsts.now) a.lanes l.a a.gs.now l.gs _
     (λ i k. length-g z.d (one z) a.c a.lanes a.rows.now a.firsts.now i)
     (g-made z.d (one z) a.c a.lanes l.a _ a.rows.now a.firsts.now _ _ _ lg (row-part a.c l.a z.d a.firsts.now p.5.helps)

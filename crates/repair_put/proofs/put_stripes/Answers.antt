@@ -1,4 +1,5 @@
 -- `repair_put::put_stripes` meets its contract. The loop's invariant: the stripes of the fresh boards so far are put.
+-- A turn's number is below the fresh boards' as some board is fresh: so a loop that ends early is refused where it ends.
 -- Assumes nothing.
 use Rattle.std.proofs.Common.{◌≡◌, refl, ap, true, ◌∙◌, ◌+◌, ◌*◌, ◌<◌, ◌≤◌, length, get_or, ℕ, List, arith}
 use native.Mathlib.Nat.{mul-le-mul_right}
@@ -28,29 +29,29 @@ loop-a-init c = refl
 pub overflow_mul-from : goal.overflow_mul-from
 overflow_mul-from c =
     let a = c.args in
-    omega (arith, ends a.sizes (legal-facts _ c.requires.0) a.part c.requires.4 a.fresh.now c.requires.7 c.loop-a.a c.loop-a-test.true)
+    omega (arith, ends a.sizes (legal-facts _ c.requires.0) a.part c.requires.4 a.fresh.now c.requires.7 c.loop-a.a (omega (arith, c.loop-a-test.true, c.requires.6.some)))
 
 pub overflow_add-from : goal.overflow_add-from
 overflow_add-from c =
     let a = c.args in
-    omega (arith, c.requires.5, ends a.sizes (legal-facts _ c.requires.0) a.part c.requires.4 a.fresh.now c.requires.7 c.loop-a.a c.loop-a-test.true)
+    omega (arith, c.requires.5, ends a.sizes (legal-facts _ c.requires.0) a.part c.requires.4 a.fresh.now c.requires.7 c.loop-a.a (omega (arith, c.loop-a-test.true, c.requires.6.some)))
 
 pub overflow_add-to : goal.overflow_add-to
 overflow_add-to c =
     let a = c.args in
-    omega (arith, c.requires.5, ends a.sizes (legal-facts _ c.requires.0) a.part c.requires.4 a.fresh.now c.requires.7 c.loop-a.a c.loop-a-test.true)
+    omega (arith, c.requires.5, ends a.sizes (legal-facts _ c.requires.0) a.part c.requires.4 a.fresh.now c.requires.7 c.loop-a.a (omega (arith, c.loop-a-test.true, c.requires.6.some)))
 
 pub slice_bounds-finish-end : goal.slice_bounds-finish-end
 slice_bounds-finish-end c =
     let a = c.args in
-    omega (arith, c.requires.5, c.requires.12, ends a.sizes (legal-facts _ c.requires.0) a.part c.requires.4 a.fresh.now c.requires.7 c.loop-a.a c.loop-a-test.true)
+    omega (arith, c.requires.5, c.requires.12, ends a.sizes (legal-facts _ c.requires.0) a.part c.requires.4 a.fresh.now c.requires.7 c.loop-a.a (omega (arith, c.loop-a-test.true, c.requires.6.some)))
 
 pub finish-requires : goal.finish-requires
 finish-requires c =
     let a = c.args in
     let p = c.requires in
     let l = c.loop-a in
-    let h = c.loop-a-test.true in
+    let h : l.a < length a.fresh.now = omega (arith, c.loop-a-test.true, p.6.some) in
     let e = ends a.sizes (legal-facts _ p.0) a.part p.4 a.fresh.now p.7 l.a h in (
       p.0,
       p.1,
@@ -73,7 +74,7 @@ loop-a-preserved c =
     let l = c.loop-a in
     let z = a.sizes in
     let k = c.finish.ensures in
-    let run = length-piece a.c l.a a.seconds.now (omega (arith, part_end l.a a.c (length a.fresh.now) c.loop-a-test.true, p.8)) in
+    let run = length-piece a.c l.a a.seconds.now (omega (arith, part_end l.a a.c (length a.fresh.now) (omega (arith, c.loop-a-test.true, p.6.some)), p.8)) in
     puts-turn (λ b. get_or a.fresh.now b 0 * a.part + a.s * α z) (stripe_by z a.c a.lanes a.rows.now a.fresh.now a.seconds.now a.gs.now)
     (α z) l.a (get_or a.fresh.now l.a 0 * a.part + a.s * α z) a.area.now l.area _ refl
     (ap length k ∙ length-stripe z (legal-facts _ p.0) a.c a.lanes a.rows.now a.fresh.now a.seconds.now a.gs.now l.a p.6 run) k l.invariant
